@@ -1,0 +1,1 @@
+// A gate's figures: the fold of the sixteen values, the gate step and the output product.

@@ -1,0 +1,3 @@
+pub mod Netlist
+pub mod Exact
+pub mod Figures
