@@ -74,3 +74,15 @@ gateFailure u table vs fs p = gateStep u (foldPins u fs (startValues u table vs)
 -- the output product: the reliability s after one more output whose failure is f
 unfoldable pub outputStep : ℕ → ℕ → ℕ → ℕ
 outputStep u s f = blend u s 0 f
+
+-- a source's word, as the work area holds it for a gate: 2 × failure + right value
+abbrev pub rightOf : ℕ → Bool
+rightOf w = isOdd w
+
+abbrev pub failureOf : ℕ → ℕ
+failureOf w = w / 2
+
+-- a gate's word from its table, its pins' words, pin 0 first, and its flip
+unfoldable pub gateWord : ℕ → ℕ → List ℕ → ℕ → ℕ
+gateWord u table ws p =
+    2 * gateFailure u table (map rightOf ws) (map failureOf ws) p + bitOf (answer table (map rightOf ws))

@@ -1,1 +1,2 @@
 pub mod Figure
+pub mod Pins

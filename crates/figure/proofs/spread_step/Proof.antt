@@ -1,0 +1,95 @@
+use Prim.Native.Nat.{ℕ, _+_, _-_, _*_, _≤_}
+use mathlib.Core.Path.{_≡_}
+use native.Mathlib.Omega.{arith}
+use lib.ListN.{length, getD, take, length-set}
+use Rattle.figure.specs.Pins.{spreadStep}
+use Rattle.figure.proofs.Spread.{spread-turn}
+use borrow.Author.Needs.{needs}
+use Rattle.figure.proofs.spread_step.Statement.{statement}
+use Rattle.figure.proofs.spread_step.Tie as tie
+
+abbrev Inv-loop : tie.InvT-loop
+Inv-loop used right wrong indices spread₀ i₀ spread i =
+    (i ≤ used) × (length spread ≡ 16) × (take (2 * i) spread ≡ spreadStep right wrong (take i indices))
+
+abbrev μ-loop : tie.MeasureT-loop
+μ-loop used right wrong indices spread₀ i₀ spread i = used - i
+
+loop-holds : tie.Need-loop-holds Inv-loop μ-loop
+loop-holds c = search needs
+
+mul-x : tie.Need-mul-x Inv-loop μ-loop
+mul-x c = search needs
+
+array-read-x : tie.Need-array-read-x Inv-loop μ-loop
+array-read-x c = search needs
+
+add-spread : tie.Need-add-spread Inv-loop μ-loop
+add-spread c = omega (arith, c .before .before .pre .1 (c .before .loop .i) (omega arith))
+
+mul-spread : tie.Need-mul-spread Inv-loop μ-loop
+mul-spread c = search needs
+
+mul-spread-2 : tie.Need-mul-spread-2 Inv-loop μ-loop
+mul-spread-2 c = search needs
+
+array-write-spread : tie.Need-array-write-spread Inv-loop μ-loop
+array-write-spread c = search needs
+
+add-spread-2 : tie.Need-add-spread-2 Inv-loop μ-loop
+add-spread-2 c = omega (arith, c .before .before .pre .1 (c .before .loop .i) (omega arith))
+
+mul-spread-3 : tie.Need-mul-spread-3 Inv-loop μ-loop
+mul-spread-3 c = search needs
+
+add-spread-3 : tie.Need-add-spread-3 Inv-loop μ-loop
+add-spread-3 c = search needs
+
+mul-spread-4 : tie.Need-mul-spread-4 Inv-loop μ-loop
+mul-spread-4 c = search needs
+
+array-write-spread-2 : tie.Need-array-write-spread-2 Inv-loop μ-loop
+array-write-spread-2 c = search needs
+
+add-i : tie.Need-add-i Inv-loop μ-loop
+add-i c = search needs
+
+loop-less : tie.Need-loop-less Inv-loop μ-loop
+loop-less c = search needs
+
+loop-again : tie.Need-loop-again Inv-loop μ-loop
+loop-again c =
+    let l = c .before .loop in
+    let a = c .before .before .args in (
+      omega arith,
+      simp length-set (l .inv .1),
+      spread-turn (a .right) (a .wrong) (a .t1) (l .spread) (l .i) (omega arith) (omega arith) (l .inv .2),
+    )
+
+returns : tie.Need-returns Inv-loop μ-loop
+returns c =
+    let end : c .before .loop .i ≡ c .before .before .args .used = omega arith in
+    rw end at (c .before .loop .inv .2)
+
+pub spread-step-spec : {M : Type 1} → statement M
+spread-step-spec =
+    tie.close
+    (tie.spec
+    Inv-loop
+    μ-loop
+    loop-holds
+    mul-x
+    array-read-x
+    add-spread
+    mul-spread
+    mul-spread-2
+    array-write-spread
+    add-spread-2
+    mul-spread-3
+    add-spread-3
+    mul-spread-4
+    array-write-spread-2
+    add-i
+    loop-less
+    loop-again
+    returns)

@@ -1,0 +1,74 @@
+use Prim.Native.Nat.{ℕ, _+_, _-_, _*_, _≤_}
+use mathlib.Core.Path.{_≡_}
+use mathlib.Core.List.{map}
+use native.Mathlib.Omega.{arith}
+use lib.ListN.{length, getD, take, length-set}
+use Rattle.rounding.specs.Rounding.{unitsInOne}
+use Rattle.figure.specs.Pins.{differs}
+use Rattle.figure.proofs.Spread.{map-turn}
+use borrow.Author.Needs.{needs}
+use Rattle.figure.proofs.start_values.Statement.{statement}
+use Rattle.figure.proofs.start_values.Tie as tie
+
+abbrev Inv-loop : tie.InvT-loop
+Inv-loop table answer used indices values₀ i₀ values i =
+    (i ≤ used) × (length values ≡ 16) × (take i values ≡ map (differs unitsInOne table answer) (take i indices))
+
+abbrev μ-loop : tie.MeasureT-loop
+μ-loop table answer used indices values₀ i₀ values i = used - i
+
+loop-holds : tie.Need-loop-holds Inv-loop μ-loop
+loop-holds c = search needs
+
+mul-difference : tie.Need-mul-difference Inv-loop μ-loop
+mul-difference c = search needs
+
+array-read-difference : tie.Need-array-read-difference Inv-loop μ-loop
+array-read-difference c = search needs
+
+difference-requires : tie.Need-difference-requires Inv-loop μ-loop
+difference-requires c κs = c .before .before .pre .1 (c .before .loop .i) (omega arith)
+
+mul-values : tie.Need-mul-values Inv-loop μ-loop
+mul-values c = search needs
+
+array-write-values : tie.Need-array-write-values Inv-loop μ-loop
+array-write-values c = search needs
+
+add-i : tie.Need-add-i Inv-loop μ-loop
+add-i c = search needs
+
+loop-less : tie.Need-loop-less Inv-loop μ-loop
+loop-less c = search needs
+
+loop-again : tie.Need-loop-again Inv-loop μ-loop
+loop-again c =
+    let l = c .before .before .loop in
+    let a = c .before .before .before .args in (
+      omega arith,
+      simp length-set (l .inv .1),
+      rw (c .difference .ensures)
+          (map-turn (differs unitsInOne (a .table) (a .answer)) (a .t3) (l .values) (l .i) (omega arith) (omega arith) (l .inv .2)),
+    )
+
+returns : tie.Need-returns Inv-loop μ-loop
+returns c =
+    let end : c .before .loop .i ≡ c .before .before .args .used = omega arith in
+    rw end at (c .before .loop .inv .2)
+
+pub start-values-spec : {M : Type 1} → statement M
+start-values-spec =
+    tie.close
+    (tie.spec
+    Inv-loop
+    μ-loop
+    loop-holds
+    mul-difference
+    array-read-difference
+    difference-requires
+    mul-values
+    array-write-values
+    add-i
+    loop-less
+    loop-again
+    returns)
