@@ -1,2 +1,5 @@
+pub mod Fold
 pub mod Step
 pub mod Spread
+pub mod Nest
+pub mod Gather
