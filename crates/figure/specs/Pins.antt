@@ -46,3 +46,25 @@ differs u table answer x = cond (eqb (table / 2 ^ x % 2) answer) 0 u
 abbrev pub foldFirst : ℕ → List ℕ → ℕ → List ℕ → List ℕ
 foldFirst u failure zero xs = xs
 foldFirst u failure (suc k) xs = foldStep u (getD failure k 0) (foldFirst u failure k xs)
+
+-- pins gathered in turn, each of twice the weight of the one before
+abbrev pub gather : FailingPins → ℕ → List ℕ → FailingPins
+gather p weight [] = p
+gather p weight (w ∷ ws) = gather (withPin p w weight) (2 * weight) ws
+
+-- the most that the first k entries can add to an index, right and wrong together
+abbrev pub room : List ℕ → List ℕ → ℕ → ℕ
+room right wrong zero = 0
+room right wrong (suc k) = getD right k 0 + getD wrong k 0 + room right wrong k
+
+-- the fold over the first k entries of D at an index, entry 0 innermost
+abbrev pub nest : ℕ → List ℕ → List ℕ → List ℕ → (ℕ → ℕ) → ℕ → ℕ → ℕ
+nest u right wrong failure D zero x = D x
+nest u right wrong failure D (suc k) x =
+    blend u (nest u right wrong failure D k (x + getD right k 0)) (nest u right wrong failure D k (x + getD wrong k 0)) (getD failure k 0)
+
+-- what the fold asks of k entries: every index stays below 16, and no failure passes U
+pub record Foldable (p : FailingPins) (k : ℕ) : Type 0 where
+  pub entries : k ≤ 4
+  pub indices : p .base + room (p .right) (p .wrong) k ≤ 15
+  pub failures : (j : ℕ) → j < k → getD (p .failure) j 0 ≤ unitsInOne
