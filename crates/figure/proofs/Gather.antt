@@ -104,7 +104,7 @@ none =
       index-below = omega arith;
       base-below = omega arith;
       failures = below-none _;
-      same = λ u pos D. refl
+      same = λ u pos D. refl;
     }
 
 -- a value times a weight
@@ -153,7 +153,7 @@ module _ (ws : List ℕ) (p : FailingPins) (g : Gathered ws p) (w n : ℕ) (weig
         same = λ u pos D.
             let never : failureOf w ≡ 0 = omega arith in
             moved u pos D (w % 2 * n) _ add-right
-            ∙ sym (fold-last u D ws w ∙ rw never (blend-none u _ _ pos))
+            ∙ sym (fold-last u D ws w ∙ rw never (blend-none u _ _ pos));
       })
 
   -- a pin that can fail
@@ -181,7 +181,7 @@ module _ (ws : List ℕ) (p : FailingPins) (g : Gathered ws p) (w n : ℕ) (weig
             (ap₂ (λ (r x : ℕ). blend u r x (w / 2))
             (nest-set u (p .right) (p .wrong) (p .failure) D k a b (w / 2) k (p .base + a) (omega arith) ∙ moved u pos D a _ add-right)
             (nest-set u (p .right) (p .wrong) (p .failure) D k a b (w / 2) k (p .base + b) (omega arith) ∙ moved u pos D b _ add-wrong)
-            ∙ sym (fold-last u D ws w)))
+            ∙ sym (fold-last u D ws w)));
       })
 
   one-more : failureOf w ≤ unitsInOne → length ws < 4 → Gathered (ws ++ (w ∷ [])) (withPin p w n)

@@ -3,3 +3,5 @@ pub mod Step
 pub mod Spread
 pub mod Nest
 pub mod Gather
+pub mod Loops
+pub mod Laws

@@ -4,8 +4,8 @@ use mathlib.Core.Path.{_≡_, refl, sym, ap, ap₂, _∙_}
 use mathlib.Core.List.{List, [], _∷_, map}
 use native.Mathlib.Nat.{add-assoc}
 use native.Mathlib.Omega.{arith}
-use lib.ListN.{length, getD, set}
-use lib.Seq.{getD-set-other}
+use lib.ListN.{getD, set, take}
+use lib.Seq.{getD-set-other, take-nil}
 use Rattle.rounding.specs.Rounding.{blend}
 use Rattle.rounding.proofs.Laws.{blend-at-most}
 use Rattle.figure.specs.Figure.{foldStep}
@@ -66,3 +66,24 @@ under-fold u f [] pos hf h i = h i
 under-fold u f (r ∷ []) pos hf h i = omega (arith)
 under-fold u f (r ∷ w ∷ xs) pos hf h zero = omega (arith, blend-at-most u r w f u pos hf (omega (arith, h 0)) (omega (arith, h 1)))
 under-fold u f (r ∷ w ∷ xs) pos hf h (suc i) = under-fold u f xs pos hf (λ j. h (suc (suc j))) i
+
+pub under-first : (u : ℕ) (failure xs : List ℕ) → 0 < u → (k : ℕ) → ((j : ℕ) → j < k → getD failure j 0 ≤ u) → Under u 0 xs
+    → Under u 0 (foldFirst u failure k xs)
+under-first u failure xs pos zero hf h = h
+under-first u failure xs pos (suc k) hf h =
+    under-fold u (getD failure k 0) (foldFirst u failure k xs) pos (hf k (omega arith))
+    (under-first u failure xs pos k (λ j l. hf j (omega arith)) h)
+
+-- what holds of 0 and of the first n elements holds of every element of the part
+pub all-take : (P : ℕ → Type 0) → P 0 → (xs : List ℕ) (n : ℕ) → ((i : ℕ) → i < n → P (getD xs i 0)) → (i : ℕ) → P (getD (take n xs) i 0)
+all-take P z [] n h i = rw (take-nil n) z
+all-take P z (x ∷ xs) zero h i = z
+all-take P z (x ∷ xs) (suc n) h zero = h 0 (omega arith)
+all-take P z (x ∷ xs) (suc n) h (suc i) = all-take P z xs n (λ j l. h (suc j) (omega arith)) i
+
+-- all indices keep the bound that the base and the room of all pins keep
+pub under-all : (b : ℕ) (right wrong : List ℕ) (k : ℕ) (xs : List ℕ) → Under b (room right wrong k) xs → Under b 0 (spreadAll right wrong k xs)
+under-all b right wrong zero xs h = h
+under-all b right wrong (suc k) xs h =
+    under-all b right wrong k (spreadStep (getD right k 0) (getD wrong k 0) xs)
+    (under-spread b (room right wrong k) (getD right k 0) (getD wrong k 0) xs h)

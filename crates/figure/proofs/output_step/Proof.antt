@@ -1,3 +1,4 @@
+use Rattle.figure.specs.Figure.{outputStep}
 use borrow.Author.Needs.{needs}
 use Rattle.figure.proofs.output_step.Statement.{statement}
 use Rattle.figure.proofs.output_step.Tie as tie
@@ -6,6 +7,7 @@ blended-requires : tie.Need-blended-requires
 blended-requires c κs = search needs
 
 returns : tie.Need-returns
+unfolding outputStep
 returns c = search needs
 
 pub output-step-spec : {M : Type 1} → statement M

@@ -1,14 +1,9 @@
-use Prim.Native.Nat.{ℕ, _*_, _%_, _≤_}
-use native.Mathlib.Nat.{mul-le-mul-right, one-mul}
 use native.Mathlib.Omega.{arith}
 use borrow.Author.Tests.{lt-ltb, le-ltb}
+use Rattle.figure.proofs.Loops.{added}
 use borrow.Author.Needs.{needs}
 use Rattle.figure.proofs.with_pin.Statement.{statement}
 use Rattle.figure.proofs.with_pin.Tie as tie
-
--- a pin adds at most its weight
-added : (word weight : ℕ) → word % 2 * weight ≤ weight
-added word weight = omega (arith, mul-le-mul-right {m = word % 2} {n = 1} weight (omega arith), one-mul weight)
 
 mul-add : tie.Need-mul-add
 mul-add c = omega (arith, added (c .args .word) (c .args .weight))
