@@ -1,30 +1,15 @@
--- Laws of a gate's figures: no value passes u, and the fold over the gathered pins is the figure of document 01. Assumes nothing.
+-- Laws of a gate's figures: no value passes u, and the code's fold is the figure of document 01. Assumes nothing.
 use Prim.Native.Nat.{ℕ, zero, suc, _+_, _-_, _*_, _/_, _%_, _^_, _≤_, _<_}
-use mathlib.Core.Bool.{Bool, true, false, cond, Bool·beq}
+use mathlib.Core.Bool.{Bool, true, false, cond, not, Bool·beq}
 use mathlib.Core.Path.{_≡_, refl, sym, ap, ap₂, _∙_, fun-ext}
 use mathlib.Core.List.{List, [], _∷_, map}
 use native.Mathlib.Omega.{arith}
-use native.Mathlib.Nat.{mod-lt}
 use lib.Dec.{eqb}
 use lib.ListN.{length, getD, length-map}
-use Rattle.rounding.specs.Rounding.{blend}
 use Rattle.rounding.proofs.Laws.{blend-at-most}
-use Rattle.figure.specs.Figure.{isOdd, bitOf, indexOf, inverted, answer, errorPatterns, difference, startValues, foldStep, foldPins, gateStep, gateFailure, outputStep, rightOf, failureOf, gateWord}
-use Rattle.figure.specs.Pins.{differs, nest}
-use Rattle.figure.specs.declared.FailingPins.{FailingPins}
-use Rattle.figure.proofs.Fold.{foldOver, fold-over}
-use Rattle.figure.proofs.Nest.{Under, under-fold}
-use Rattle.figure.proofs.Gather.{foldIndex, Gathered}
-
-under-choice : (u : ℕ) (b : Bool) → cond b 0 u ≤ u
-under-choice u true = omega arith
-under-choice u false = omega arith
-
--- start values are 0 or u
-pub under-choices : {A : Type 0} (u : ℕ) (test : A → Bool) (es : List A) → Under u 0 (map (λ (e : A). cond (test e) 0 u) es)
-under-choices u test [] i = omega arith
-under-choices u test (e ∷ es) zero = omega (arith, under-choice u (test e))
-under-choices u test (e ∷ es) (suc i) = under-choices u test es i
+use Rattle.figure.specs.Figure.{bitOf, indexOf, invertIf, inverted, interleave, errorPatterns, answer, difference, startValues, foldStep, foldPins, gateStep, gateFailure, outputStep, rightOf, failureOf, gateWord}
+use Rattle.figure.specs.Steps.{spreadStep, spreadPin, spreadPins, differs, lastValue}
+use Rattle.figure.proofs.Under.{Under, under-fold, under-choices}
 
 fold-at-most : (u : ℕ) → 0 < u → (fs xs : List ℕ) → Under u 0 fs → Under u 0 xs → foldPins u fs xs ≤ u
 fold-at-most u pos [] xs hf h = omega (arith, h 0)
@@ -33,7 +18,8 @@ fold-at-most u pos (f ∷ fs) xs hf h = fold-at-most u pos fs (foldStep u f xs) 
 module _ (u : ℕ) (pos : 0 < u) where
   pub last-at-most : (table : ℕ) (vs : List Bool) (fs : List ℕ) → Under u 0 fs → foldPins u fs (startValues u table vs) ≤ u
   unfolding startValues difference
-  last-at-most table vs fs hf = fold-at-most u pos fs _ hf (under-choices u (λ e. Bool·beq (answer table (inverted vs e)) (answer table vs)) (errorPatterns (length vs)))
+  last-at-most table vs fs hf =
+      fold-at-most u pos fs _ hf (under-choices u (λ e. Bool·beq (answer table (inverted vs e)) (answer table vs)) (errorPatterns (length vs)))
 
   pub gate-step-at-most : (m p : ℕ) → m ≤ u → p ≤ u → gateStep u m p ≤ u
   unfolding gateStep
@@ -48,6 +34,30 @@ module _ (u : ℕ) (pos : 0 < u) where
   pub output-at-most : (s f : ℕ) → s ≤ u → f ≤ u → outputStep u s f ≤ u
   unfolding outputStep
   output-at-most s f hs hf = blend-at-most u s 0 f u pos hf hs (omega arith)
+
+-- the lowest bit of a number as a value, back as a number
+pub bit-odd : (x : ℕ) → bitOf (rightOf x) ≡ x % 2
+bit-odd x = go (x % 2) (omega arith)
+  where
+    go : (r : ℕ) → r < 2 → bitOf (eqb r 1) ≡ r
+    go zero h = refl
+    go (suc zero) h = refl
+    go (suc (suc r)) h = absurd (none h)
+      where
+        none : suc (suc r) < 2 → ⊥
+        none h = omega arith
+
+-- what a wrong pin adds
+bit-wrong : (w n : ℕ) → n - w % 2 * n ≡ bitOf (not (rightOf w)) * n
+bit-wrong w n = go (w % 2) (omega arith)
+  where
+    go : (r : ℕ) → r < 2 → n - r * n ≡ bitOf (not (eqb r 1)) * n
+    go zero h = omega arith
+    go (suc zero) h = omega arith
+    go (suc (suc r)) h = absurd (none h)
+      where
+        none : suc (suc r) < 2 → ⊥
+        none h = omega arith
 
 -- two bits agree as values where they agree as numbers
 beq-odd : (x y : ℕ) → x < 2 → y < 2 → Bool·beq (eqb x 1) (eqb y 1) ≡ eqb x y
@@ -68,24 +78,63 @@ beq-odd (suc (suc x)) y hx hy = absurd (large hx)
     large : suc (suc x) < 2 → ⊥
     large h = omega arith
 
--- step 1 at an index is step 1 under the error pattern that leads there
-at-index : (u table : ℕ) (vs es : List Bool)
-    → differs u table (table / 2 ^ indexOf vs % 2) (indexOf (inverted vs es)) ≡ difference u table vs es
-unfolding difference answer
-at-index u table vs es =
-    ap (λ (b : Bool). cond b 0 u) (sym (beq-odd (table / 2 ^ indexOf (inverted vs es) % 2) (table / 2 ^ indexOf vs % 2) (omega arith) (omega arith)))
+map-interleave : {A B : Type 0} (G : A → B) (xs ys : List A) → map G (interleave xs ys) ≡ interleave (map G xs) (map G ys)
+map-interleave G [] ys = refl
+map-interleave G (x ∷ xs) [] = refl
+map-interleave G (x ∷ xs) (y ∷ ys) = ap (λ l. G x ∷ G y ∷ l) (map-interleave G xs ys)
 
--- the fold over the gathered pins is steps 1 and 2
-pub nest-is-fold : (u : ℕ) → 0 < u → (table : ℕ) (ws : List ℕ) (p : FailingPins) → Gathered ws p
-    → nest u (p .right) (p .wrong) (p .failure) (differs u table (table / 2 ^ p .index % 2)) (p .count) (p .base)
-    ≡ foldPins u (map failureOf ws) (startValues u table (map rightOf ws))
-unfolding startValues
-nest-is-fold u pos table ws p g =
+map-spread : (D : ℕ → ℕ) (right wrong : ℕ) (xs : List ℕ)
+    → map D (spreadStep right wrong xs) ≡ interleave (map (λ (x : ℕ). D (x + right)) xs) (map (λ (x : ℕ). D (x + wrong)) xs)
+map-spread D right wrong [] = refl
+map-spread D right wrong (x ∷ xs) = ap (λ l. D (x + right) ∷ D (x + wrong) ∷ l) (map-spread D right wrong xs)
+
+-- the index that an error pattern leads to, from x, where pin 0 has the weight p
+abbrev at : ℕ → ℕ → List ℕ → List Bool → ℕ
+at p x ws es = x + p * indexOf (inverted (map rightOf ws) es)
+
+-- one side of a pin: right where e is false, wrong where it is true
+side : (D : ℕ → ℕ) (p x add : ℕ) (e : Bool) (w : ℕ) (ws : List ℕ) → add ≡ bitOf (invertIf e (rightOf w)) * p → (E : List (List Bool))
+    → map (λ (es : List Bool). D (at (2 * p) x ws es + add)) E ≡ map (λ (es : List Bool). D (at p x (w ∷ ws) es)) (map (λ (es : List Bool). e ∷ es) E)
+side D p x add e w ws h [] = refl
+side D p x add e w ws h (es ∷ E) =
+    let same : at (2 * p) x ws es + add ≡ at p x (w ∷ ws) (e ∷ es) = omega (arith, h) in
+    ap₂ (λ (y : ℕ) (l : List ℕ). D y ∷ l) same (side D p x add e w ws h E)
+
+-- the indices worked out pin by pin are those of the error patterns, in their order
+spread-at : (D : ℕ → ℕ) (p x : ℕ) (ws : List ℕ)
+    → map D (spreadPins p ws (x ∷ [])) ≡ map (λ (es : List Bool). D (at p x ws es)) (errorPatterns (length ws))
+spread-at D p x [] =
+    let none : x ≡ x + p * 0 = omega arith in
+    ap (λ (y : ℕ). D y ∷ []) none
+spread-at D p x (w ∷ ws) =
+    let E = errorPatterns (length ws) in
+    let right = w % 2 * p in
+    let wrong = p - w % 2 * p in
+    map-spread D right wrong (spreadPins (2 * p) ws (x ∷ []))
+    ∙ ap₂ interleave
+    (spread-at (λ y. D (y + right)) (2 * p) x ws ∙ side D p x right false w ws (ap (λ (b : ℕ). b * p) (sym (bit-odd w))) E)
+    (spread-at (λ y. D (y + wrong)) (2 * p) x ws ∙ side D p x wrong true w ws (bit-wrong w p) E)
+    ∙ sym (map-interleave (λ (es : List Bool). D (at p x (w ∷ ws) es)) (map (λ (e : List Bool). false ∷ e) E) (map (λ (e : List Bool). true ∷ e) E))
+
+-- step 1 at an index is step 1 under the error pattern that leads there
+at-index : (u table : ℕ) (ws : List ℕ) (es : List Bool)
+    → differs u table (table / 2 ^ indexOf (map rightOf ws) % 2) (at 1 0 ws es) ≡ difference u table (map rightOf ws) es
+unfolding difference answer
+at-index u table ws es =
     let vs = map rightOf ws in
-    let fs = map failureOf ws in
-    let same-length : length fs ≡ length vs = length-map ws failureOf ∙ sym (length-map ws rightOf) in
-    g .same u pos (differs u table (table / 2 ^ p .index % 2))
-    ∙ ap (λ (i : ℕ). foldOver u fs (λ es. differs u table (table / 2 ^ i % 2) (indexOf (inverted vs es)))) (g .index)
-    ∙ ap (foldOver u fs) (fun-ext (λ es. at-index u table vs es))
-    ∙ sym (fold-over u fs (difference u table vs))
-    ∙ ap (λ (n : ℕ). foldPins u fs (map (difference u table vs) (errorPatterns n))) same-length
+    let here : at 1 0 ws es ≡ indexOf (inverted vs es) = omega arith in
+    ap (λ (b : Bool). cond b 0 u)
+    (ap (λ (x : ℕ). eqb (table / 2 ^ x % 2) (table / 2 ^ indexOf vs % 2)) here
+    ∙ sym (beq-odd (table / 2 ^ indexOf (inverted vs es) % 2) (table / 2 ^ indexOf vs % 2) (omega arith) (omega arith)))
+
+-- the code's last value is steps 1 and 2 of the figures
+pub last-is : (u table right : ℕ) (ws : List ℕ) → right ≡ table / 2 ^ indexOf (map rightOf ws) % 2
+    → lastValue u table right ws ≡ foldPins u (map failureOf ws) (startValues u table (map rightOf ws))
+unfolding lastValue startValues
+last-is u table right ws e =
+    let vs = map rightOf ws in
+    ap (foldPins u (map failureOf ws))
+    (ap (λ (r : ℕ). map (differs u table r) (spreadPins 1 ws (0 ∷ []))) e
+    ∙ spread-at (differs u table (table / 2 ^ indexOf vs % 2)) 1 0 ws
+    ∙ ap (λ (f : List Bool → ℕ). map f (errorPatterns (length ws))) (fun-ext (λ es. at-index u table ws es))
+    ∙ ap (λ (n : ℕ). map (difference u table vs) (errorPatterns n)) (sym (length-map ws rightOf)))

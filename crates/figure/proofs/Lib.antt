@@ -1,7 +1,6 @@
 pub mod Fold
 pub mod Step
 pub mod Spread
-pub mod Nest
-pub mod Gather
-pub mod Loops
+pub mod Under
 pub mod Laws
+pub mod Index

@@ -6,7 +6,7 @@ use native.Mathlib.Numerals.{add-one}
 use native.Mathlib.Omega.{arith}
 use lib.ListN.{length, getD, take, set, length-set}
 use lib.Seq.{take-suc, take-suc-set}
-use Rattle.figure.specs.Pins.{spreadStep}
+use Rattle.figure.specs.Steps.{spreadStep}
 
 spread-append : (right wrong : ℕ) (xs : List ℕ) (x : ℕ) → spreadStep right wrong (xs ++ (x ∷ [])) ≡ spreadStep right wrong xs ++ ((x + right) ∷ (x + wrong) ∷ [])
 spread-append right wrong [] x = refl

@@ -1,2 +1,2 @@
 pub mod Figure
-pub mod Pins
+pub mod Steps

@@ -4,18 +4,18 @@ use mathlib.Core.List.{map}
 use native.Mathlib.Omega.{arith}
 use lib.ListN.{length, getD, take, length-set}
 use Rattle.rounding.specs.Rounding.{unitsInOne}
-use Rattle.figure.specs.Pins.{differs}
+use Rattle.figure.specs.Steps.{differs}
 use Rattle.figure.proofs.Spread.{map-turn}
 use borrow.Author.Needs.{needs}
 use Rattle.figure.proofs.start_values.Statement.{statement}
 use Rattle.figure.proofs.start_values.Tie as tie
 
 abbrev Inv-loop : tie.InvT-loop
-Inv-loop table answer used indices values₀ i₀ values i =
-    (i ≤ used) × (length values ≡ 16) × (take i values ≡ map (differs unitsInOne table answer) (take i indices))
+Inv-loop table right used indices values₀ i₀ values i =
+    (i ≤ used) × (length values ≡ 16) × (take i values ≡ map (differs unitsInOne table right) (take i indices))
 
 abbrev μ-loop : tie.MeasureT-loop
-μ-loop table answer used indices values₀ i₀ values i = used - i
+μ-loop table right used indices values₀ i₀ values i = used - i
 
 loop-holds : tie.Need-loop-holds Inv-loop μ-loop
 loop-holds c = search needs
@@ -48,7 +48,7 @@ loop-again c =
       omega arith,
       simp length-set (l .inv .1),
       rw (c .difference .ensures)
-          (map-turn (differs unitsInOne (a .table) (a .answer)) (a .t3) (l .values) (l .i) (omega arith) (omega arith) (l .inv .2)),
+          (map-turn (differs unitsInOne (a .table) (a .right)) (a .t3) (l .values) (l .i) (omega arith) (omega arith) (l .inv .2)),
     )
 
 returns : tie.Need-returns Inv-loop μ-loop

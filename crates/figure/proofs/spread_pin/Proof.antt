@@ -1,22 +1,29 @@
-use Prim.Native.Nat.{ℕ, _+_, _-_, _*_, _≤_}
-use mathlib.Core.Path.{_≡_}
+use Prim.Native.Nat.{ℕ, _+_, _-_, _*_, _%_, _≤_}
+use mathlib.Core.Path.{_≡_, refl}
 use native.Mathlib.Omega.{arith}
 use lib.ListN.{length, getD, take, length-set}
-use Rattle.figure.specs.Pins.{spreadStep}
+use Rattle.figure.specs.Steps.{spreadStep}
 use Rattle.figure.proofs.Spread.{spread-turn}
+use Rattle.figure.proofs.Under.{added}
 use borrow.Author.Needs.{needs}
-use Rattle.figure.proofs.spread_step.Statement.{statement}
-use Rattle.figure.proofs.spread_step.Tie as tie
+use Rattle.figure.proofs.spread_pin.Statement.{statement}
+use Rattle.figure.proofs.spread_pin.Tie as tie
 
 abbrev Inv-loop : tie.InvT-loop
-Inv-loop used right wrong indices spread₀ i₀ spread i =
+Inv-loop used word weight indices right wrong spread₀ i₀ spread i =
     (i ≤ used) × (length spread ≡ 16) × (take (2 * i) spread ≡ spreadStep right wrong (take i indices))
 
 abbrev μ-loop : tie.MeasureT-loop
-μ-loop used right wrong indices spread₀ i₀ spread i = used - i
+μ-loop used word weight indices right wrong spread₀ i₀ spread i = used - i
+
+mul-right : tie.Need-mul-right Inv-loop μ-loop
+mul-right c = omega (arith, added (c .args .word) (c .args .weight))
+
+sub-wrong : tie.Need-sub-wrong Inv-loop μ-loop
+sub-wrong c = added (c .args .word) (c .args .weight)
 
 loop-holds : tie.Need-loop-holds Inv-loop μ-loop
-loop-holds c = search needs
+loop-holds c = (omega arith, refl, refl)
 
 mul-x : tie.Need-mul-x Inv-loop μ-loop
 mul-x c = search needs
@@ -25,7 +32,9 @@ array-read-x : tie.Need-array-read-x Inv-loop μ-loop
 array-read-x c = search needs
 
 add-spread : tie.Need-add-spread Inv-loop μ-loop
-add-spread c = omega (arith, c .before .before .pre .1 (c .before .loop .i) (omega arith))
+add-spread c =
+    let a = c .before .before .args in
+    omega (arith, c .before .before .pre .1 (c .before .loop .i) (omega arith), added (a .word) (a .weight))
 
 mul-spread : tie.Need-mul-spread Inv-loop μ-loop
 mul-spread c = search needs
@@ -37,7 +46,9 @@ array-write-spread : tie.Need-array-write-spread Inv-loop μ-loop
 array-write-spread c = search needs
 
 add-spread-2 : tie.Need-add-spread-2 Inv-loop μ-loop
-add-spread-2 c = omega (arith, c .before .before .pre .1 (c .before .loop .i) (omega arith))
+add-spread-2 c =
+    let a = c .before .before .args in
+    omega (arith, c .before .before .pre .1 (c .before .loop .i) (omega arith), added (a .word) (a .weight))
 
 mul-spread-3 : tie.Need-mul-spread-3 Inv-loop μ-loop
 mul-spread-3 c = search needs
@@ -55,7 +66,7 @@ add-i : tie.Need-add-i Inv-loop μ-loop
 add-i c = search needs
 
 loop-less : tie.Need-loop-less Inv-loop μ-loop
-loop-less c = search needs
+loop-less c = omega arith
 
 loop-again : tie.Need-loop-again Inv-loop μ-loop
 loop-again c =
@@ -63,7 +74,7 @@ loop-again c =
     let a = c .before .before .args in (
       omega arith,
       simp length-set (l .inv .1),
-      spread-turn (a .right) (a .wrong) (a .t1) (l .spread) (l .i) (omega arith) (omega arith) (l .inv .2),
+      spread-turn (a .word % 2 * a .weight) (a .weight - a .word % 2 * a .weight) (a .t1) (l .spread) (l .i) (omega arith) (omega arith) (l .inv .2),
     )
 
 returns : tie.Need-returns Inv-loop μ-loop
@@ -71,12 +82,14 @@ returns c =
     let end : c .before .loop .i ≡ c .before .before .args .used = omega arith in
     rw end at (c .before .loop .inv .2)
 
-pub spread-step-spec : {M : Type 1} → statement M
-spread-step-spec =
+pub spread-pin-spec : {M : Type 1} → statement M
+spread-pin-spec =
     tie.close
     (tie.spec
     Inv-loop
     μ-loop
+    mul-right
+    sub-wrong
     loop-holds
     mul-x
     array-read-x
