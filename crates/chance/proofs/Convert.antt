@@ -1,14 +1,13 @@
 -- The conversion of a chance to units: the float's product with 2^31 is exact, its whole part counts half units, and rounding those up to
 -- whole units is the rounding of the bench. Assumes nothing.
-use Prim.Native.Nat.{ℕ, zero, suc, _+_, _-_, _*_, _/_, _^_, _≤_, _<_, min}
+use Prim.Native.Nat.{ℕ, _+_, _-_, _*_, _/_, _^_, _≤_, _<_, min}
 use mathlib.Core.Path.{_≡_, refl, sym, ap, _∙_, subst}
-use mathlib.Core.Bool.{Bool, true, false, cond, false≢true}
-use native.Mathlib.Nat.{le-trans, le-of-eq, lt-of-lt-of-le, lt-of-le-of-lt, zero-mul, one-mul, mul-one, mul-comm, mul-assoc, mul-right-comm, mul-pos, mul-le-mul-left, mul-le-mul-right, le-of-mul-le-mul-right, add-div-right, div-div-eq-div-mul, div-le-of-le-mul, zero-div}
+use mathlib.Core.Bool.{Bool, true, false, false≢true}
+use native.Mathlib.Nat.{le-trans, le-of-eq, zero-mul, mul-one, mul-comm, mul-right-comm, mul-le-mul-right, le-of-mul-le-mul-right, add-div-right, div-div-eq-div-mul, div-le-of-le-mul, zero-div}
 use native.Mathlib.Omega.{arith}
-use borrow.Author.Tests.{leb-true, eqb-true}
 use lib.IntN.{ℤ, pos}
-use lib.Dec.{T, ltb, lt→ltb, lit<, lit≤}
-use lib.Ieee.{Float, nan, inf, fin, binary64, up, down, unlike, mul, lt, toUnsigned, fits}
+use lib.Dec.{T, lt→ltb, lit<, lit≤}
+use lib.Ieee.{Float, nan, inf, fin, binary64, up, down, mul, lt, toUnsigned, fits}
 use lib.Ieee.Fits.{down-pos}
 use lib.Ieee.Exact.{HasValue}
 use lib.Ieee.Nearest.{div-same}

@@ -1,16 +1,15 @@
 -- The laws of flip fields that later crates cite. Assumes nothing.
 use Prim.Native.Nat.{ℕ, zero, suc, _+_, _*_, _^_, _≤_}
-use mathlib.Core.Path.{_≡_, refl, sym, ap, _∙_, subst}
+use mathlib.Core.Path.{_≡_, refl, sym, ap, _∙_}
 use mathlib.Core.Bool.{Bool, true, false, _&&_, false≢true}
 use mathlib.Core.List.{List}
 use native.Mathlib.Nat.{le-trans, le-of-eq, add-le-add, mul-comm, mul-le-mul, mul-le-mul-right, zero-mul, div-le-of-le-mul}
 use native.Mathlib.Omega.{arith}
 use lib.Dec.{T, lit≤}
-use lib.IntN.{ℤ}
-use lib.Ieee.{Float, nan, inf, fin, binary32, binary64, down, fits, ofBits}
+use lib.Ieee.{Float, nan, inf, fin, binary32, binary64, fits, ofBits}
 use lib.Ieee.Digits.{Equals}
 use lib.Ieee.Bits.{ofBits-fits}
-use lib.Ieee.Positive.{num, den, den-pos}
+use lib.Ieee.Positive.{num, den}
 use lib.Pow.{pow-add}
 use Rattle.rounding.specs.Rounding.{unitsInOne, roundDiv, toUnits}
 use Rattle.rounding.proofs.Laws.{at-most, exact}

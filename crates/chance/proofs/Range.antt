@@ -2,17 +2,18 @@
 use Prim.Native.Nat.{ℕ, zero, suc, _+_, _-_, _*_, _/_, _%_, _^_, _≤_, _<_, zero-le}
 use mathlib.Core.Path.{_≡_, refl, sym, ap, _∙_, subst}
 use mathlib.Core.Logic.{_⊎_, inl, inr}
-use mathlib.Core.Bool.{Bool, true, false, not, cond, _||_, true≢false, false≢true}
-use native.Mathlib.Nat.{le-trans, le-of-eq, le-of-lt, lt-irrefl, lt-of-lt-of-le, lt-of-le-of-lt, lt-of-not-le, eq-or-lt-of-le, zero-lt-suc, zero-mul, one-mul, mul-one, mul-zero, mul-comm, mul-assoc, mul-pos, mul-le-mul-left, mul-le-mul-right, le-of-mul-le-mul-right, mul-lt-mul-of-pos-right, zero-add, add-zero, le-of-suc-le-suc, le-add-right, pow-succ', lt-of-mul-lt-mul-right, mul-lt-mul-of-pos-left, div-add-mod', mod-lt, mod-eq-of-lt, mod-eq-sub-mod, mod-mod-of-dvd, dvd-mul-right, div-lt-iff-lt-mul}
+use mathlib.Core.Bool.{Bool, true, false, not, cond, _&&_, _||_, true≢false, false≢true}
+use native.Mathlib.Nat.{le-trans, le-of-eq, le-of-lt, lt-irrefl, lt-of-lt-of-le, lt-of-le-of-lt, eq-or-lt-of-le, zero-lt-suc, zero-mul, one-mul, mul-one, mul-comm, mul-assoc, mul-pos, mul-le-mul-left, mul-le-mul-right, le-of-mul-le-mul-right, mul-lt-mul-of-pos-right, zero-add, add-zero, le-of-suc-le-suc, le-add-right, pow-succ', lt-of-mul-lt-mul-right, mul-lt-mul-of-pos-left, div-add-mod', mod-lt, mod-eq-of-lt, mod-eq-sub-mod, mod-mod-of-dvd, dvd-mul-right}
 use native.Mathlib.Omega.{arith}
-use borrow.Author.Tests.{lt-ltb, le-leb, lt-leb, eq-eqb, ne-eqb, leb-true, leb-false, eqb-true, eqb-false}
-use lib.Dec.{T, leb, eqb, lit≤}
-use lib.Pow.{pow-pos, pow-add, pow-mono, pow-lt}
-use lib.IntN.{ℤ}
-use lib.Ieee.{Float, nan, inf, fin, Format, binary32, binary64, prec, emax, low, hid, ones, top, up, down, odd, ofFields, ofBits, isNan, nanBits}
+use borrow.Author.Tests.{lt-ltb, le-leb, lt-leb, eq-eqb, ne-eqb, leb-true, leb-false, eqb-true, ltb-true}
+use lib.Dec.{T, leb, ltb, eqb, lit≤}
+use lib.Pow.{pow-pos, pow-mono, pow-lt}
+use lib.IntN.{pos}
+use lib.Ieee.{Float, nan, inf, fin, Format, binary32, binary64, prec, emax, low, hid, ones, top, up, down, odd, ofFields, ofBits, le, level, isNan, nanBits}
 use lib.Ieee.Fits.{up-pos, down-pos}
 use lib.Ieee.Exact.{HasValue, odd-sign}
-use lib.Ieee.Bits.{nanBits-is}
+use lib.Ieee.Order.{le-of-values}
+use lib.Ieee.Bits.{is-true, nanBits-is}
 use Rattle.chance.specs.Number.{fromZeroToOne, chanceBits}
 
 -- two tests that follow from each other are equal
@@ -224,3 +225,61 @@ range-no-nan x h = subst (λ (b : Bool). T (not b)) (sym (no-nan x h)) tt
 
 pub range-no-nan-bits : (f : Format) (b : ℕ) → fromZeroToOne (ofBits f b) ≡ true → T (not (nanBits f b))
 range-no-nan-bits f b h = subst (λ (z : Bool). T (not z)) (sym (nanBits-is f b)) (range-no-nan (ofBits f b) h)
+
+-- ---- by IEEE's own comparisons
+
+or-true : (a b : Bool) → (a || b) ≡ true → (a ≡ true) ⊎ (b ≡ true)
+or-true true b h = inl refl
+or-true false b h = inr h
+
+and-first : (a b : Bool) → (a && b) ≡ true → a ≡ true
+and-first true b h = refl
+and-first false b h = h
+
+below-or-level : (a b : ℕ) (c : Bool) → (ltb a b || (eqb a b && c)) ≡ true → a ≤ b
+below-or-level a b c h = elim (or-true (ltb a b) (eqb a b && c) h) [
+  | inl p ↦ le-of-lt (ltb-true a b p)
+  | inr p ↦ le-of-eq (eqb-true a b (and-first (eqb a b) c p))
+]
+
+or-left : (a b : Bool) → a ≡ true → (a || b) ≡ true
+or-left a b h = ap (λ (x : Bool). x || b) h
+
+-- with a minus sign: m × u is the size, and z is zero
+minus-level : (m u z : ℕ) → 0 < u → z ≡ 0 → eqb m 0 ≡ (eqb z (m * u * 1) && (false || eqb z 0))
+minus-level m u z U e =
+    same-test (eqb m 0) (eqb z (m * u * 1) && (false || eqb z 0))
+    (λ h.
+    let none : m * u * 1 ≡ 0 = mul-one (m * u) ∙ ap (λ (n : ℕ). n * u) (eqb-true m 0 h) ∙ zero-mul u in
+    ap (λ (b : Bool). b && (false || eqb z 0)) (eq-eqb z (m * u * 1) (e ∙ sym none)) ∙ eq-eqb z 0 e)
+    (λ h.
+    eq-eqb m 0
+    (no-factor m u U (sym (mul-one (m * u)) ∙ sym (eqb-true z (m * u * 1) (and-first (eqb z (m * u * 1)) (false || eqb z 0) h)) ∙ e)))
+
+and-with : (a b : Bool) → b ≡ true → a ≡ (a && b)
+and-with true b h = sym h
+and-with false b h = refl
+
+-- a float is in range exactly where it is at least 0 and at most 1: minus zero equals zero there, and a NaN passes no comparison
+pub range-of-order : (x : Float) → fromZeroToOne x ≡ (le (fin false 0 (pos 0)) x && le x (fin false 1 (pos 0)))
+unfolding fromZeroToOne le
+range-of-order nan = refl
+range-of-order (inf true) = refl
+range-of-order (inf false) = refl
+range-of-order (fin false m e) =
+    let x = fin false m e in
+    let zero-le : le (fin false 0 (pos 0)) x ≡ true =
+    is-true (le (fin false 0 (pos 0)) x)
+    (le-of-values (fin false 0 (pos 0)) x 0 1 (m * up e) (down e) (zero-lt-suc 0) (down-pos e) (refl, refl) (refl, refl) (omega arith)) in
+    same-test (leb (m * up e) (down e)) (le x (fin false 1 (pos 0)))
+    (λ h.
+    is-true (le x (fin false 1 (pos 0)))
+    (le-of-values x (fin false 1 (pos 0)) (m * up e) (down e) 1 1 (down-pos e) (zero-lt-suc 0) (refl, refl) (refl, refl)
+    (omega (arith, leb-true (m * up e) (down e) h))))
+    (λ h. le-leb (m * up e) (down e) (omega (arith, below-or-level (m * up e * 1) (1 * 1 * down e) true h)))
+    ∙ ap (λ (b : Bool). b && le x (fin false 1 (pos 0))) (sym zero-le)
+range-of-order (fin true m e) =
+    minus-level m (up e) (0 * 1 * down e) (up-pos e) (zero-mul (down e))
+    ∙ and-with (level false (0 * 1 * down e) true (m * up e * 1)) (le (fin true m e) (fin false 1 (pos 0)))
+    (or-left (ltb 0 (m * up e * 1 + 1 * 1 * down e)) (level true (m * up e * 1) false (1 * 1 * down e))
+    (lt-ltb 0 (m * up e * 1 + 1 * 1 * down e) (omega (arith, down-pos e))))

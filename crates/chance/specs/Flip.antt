@@ -7,7 +7,6 @@ use lib.Dec.{eqb}
 use lib.Ieee.{binary32, binary64, ofBits}
 use lib.Ieee.Positive.{num, den}
 use Rattle.rounding.specs.Rounding.{unitsInOne, toUnits}
-use Rattle.chance.specs.declared.Strike.{Strike}
 use Rattle.chance.specs.declared.Flip.{Flip}
 use Rattle.chance.specs.declared.Flip.the-variants.{Never, Plain, Strike as Struck}
 use Rattle.chance.specs.declared.FlipRead.{FlipRead}

@@ -1,7 +1,7 @@
 -- `chance::nearest_units` meets its contract: the product is in the range that the cut to a whole number asks for, what is cut is at most
 -- 2^31, and with one added and halved it is the chance in units (`Convert`). Assumes nothing.
 use Prim.Native.Nat.{ℕ, _+_, _/_, _≤_}
-use mathlib.Core.Path.{_≡_, sym, ap, _∙_, subst}
+use mathlib.Core.Path.{sym, ap, _∙_, subst}
 use native.Mathlib.Nat.{le-trans, le-of-eq}
 use native.Mathlib.Omega.{arith}
 use lib.Dec.{T}

@@ -6,7 +6,7 @@ use borrow.Author.Needs.{needs}
 use lib.Dec.{eqb}
 use Rattle.chance.specs.declared.Flip.the-variants.{Never}
 use Rattle.chance.specs.declared.FlipRead.the-variants.{Refused}
-use Rattle.chance.specs.Flip.{firstHalf, secondHalf, wholeField, plainOf, strikeOf, inRange, flipOf, flipAccepted, readIf, readFlip}
+use Rattle.chance.specs.Flip.{secondHalf, plainOf, strikeOf, inRange, flipOf, flipAccepted, readIf, readFlip}
 use Rattle.chance.proofs.read_flip.Statement.{statement}
 use Rattle.chance.proofs.read_flip.Tie as tie
 

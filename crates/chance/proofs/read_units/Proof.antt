@@ -1,8 +1,7 @@
 -- `chance::read_units` meets its contract: what `read_flip` answers says whether the field is accepted, and its flip is then in range.
 -- Assumes nothing.
-use Prim.Native.Nat.{ℕ}
 use mathlib.Core.Path.{_≡_, sym, ap, _∙_, subst}
-use mathlib.Core.Bool.{Bool, true, false}
+use mathlib.Core.Bool.{Bool, true}
 use borrow.Author.Needs.{needs}
 use Rattle.rounding.specs.Rounding.{unitsInOne, toUnits}
 use Rattle.chance.specs.declared.Flip.{Flip}
