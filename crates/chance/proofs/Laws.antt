@@ -1,23 +1,25 @@
 -- The laws of flip fields that later crates cite. Assumes nothing.
-use Prim.Native.Nat.{ℕ, zero, suc, _+_, _*_, _^_, _≤_}
+use Prim.Native.Nat.{ℕ, zero, suc, _+_, _*_, _^_, _≤_, _<_}
 use mathlib.Core.Path.{_≡_, refl, sym, ap, _∙_}
-use mathlib.Core.Bool.{Bool, true, false, _&&_, false≢true}
+use mathlib.Core.Bool.{Bool, true, false, cond, _&&_, false≢true}
 use mathlib.Core.List.{List}
-use native.Mathlib.Nat.{le-trans, le-of-eq, add-le-add, mul-comm, mul-le-mul, mul-le-mul-right, zero-mul, div-le-of-le-mul}
+use native.Mathlib.Nat.{le-trans, le-of-eq, add-le-add, eq-of-mul-eq-mul-right, mul-assoc, mul-left-comm, mul-pos, mul-comm, mul-le-mul, mul-le-mul-right, zero-mul, div-le-of-le-mul}
 use native.Mathlib.Omega.{arith}
 use lib.Dec.{T, lit≤}
 use lib.Ieee.{Float, nan, inf, fin, binary32, binary64, fits, ofBits}
 use lib.Ieee.Digits.{Equals}
 use lib.Ieee.Bits.{ofBits-fits}
-use lib.Ieee.Positive.{num, den}
+use lib.Ieee.Positive.{num, den, den-pos}
 use lib.Pow.{pow-add}
 use Rattle.rounding.specs.Rounding.{unitsInOne, roundDiv, toUnits}
 use Rattle.rounding.proofs.Laws.{at-most, exact}
 use Rattle.chance.specs.declared.Flip.{Flip}
 use Rattle.chance.specs.declared.Flip.the-variants.{Never, Plain, Strike as Struck}
 use Rattle.chance.specs.declared.FlipRead.the-variants.{Accepted, Refused}
-use Rattle.chance.specs.Number.{chanceScale, wholeChance, fromZeroToOne}
-use Rattle.chance.specs.Flip.{firstHalf, secondHalf, wholeField, inRange, flipOf, flipAccepted, chanceOf, flipChance, readIf, readFlip}
+use Rattle.chance.specs.declared.FlipUnits.the-variants.{Units, Refused as NoUnits}
+use Rattle.chance.specs.Number.{chanceScale, wholeChance, fromZeroToOne, chanceBits}
+use Rattle.chance.specs.Flip.{firstHalf, secondHalf, wholeField, inRange, flipOf, flipAccepted, chanceOf, flipChance, readFlip, readUnits}
+use Rattle.chance.proofs.Range.{range-of-bits}
 use Rattle.chance.proofs.Exact.{den-power, scale-pos, whole-exact}
 use Rattle.chance.proofs.Product.{range-says}
 
@@ -31,23 +33,59 @@ accepted-in-range (suc zero) field h = h
 accepted-in-range (suc (suc zero)) field h = h
 accepted-in-range (suc (suc (suc k))) field h = absurd (false≢true h)
 
--- what an answer says of the field
+-- a choice that came out as z, which one of the two is not, was made for the other
+cond-first : {A : Type 0} (b : Bool) (x y z : A) → (y ≡ z → ⊥) → cond b x y ≡ z → (b ≡ true) × (x ≡ z)
+cond-first true x y z other e = (refl, e)
+cond-first false x y z other e = absurd (other e)
+
+cond-second : {A : Type 0} (b : Bool) (x y z : A) → (x ≡ z → ⊥) → cond b x y ≡ z → b ≡ false
+cond-second true x y z other e = absurd (other e)
+cond-second false x y z other e = refl
+
+-- what an answer says of the field, before conversion
 pub read-accepted : (kind : ℕ) (field : List ℕ) (flip : Flip) → readFlip kind field ≡ Accepted flip
     → (flipAccepted kind field ≡ true) × (flipOf kind field ≡ flip)
 unfolding readFlip
-read-accepted kind field flip = go (flipAccepted kind field) (flipOf kind field)
-  where
-    go : (b : Bool) (f : Flip) → readIf b f ≡ Accepted flip → (b ≡ true) × (f ≡ flip)
-    go true f e = (refl, cc)
-    go false f e = let z : _≡_ {A = ℕ} 0 1 = cc in absurd (omega arith)
+read-accepted kind field flip e =
+    let r = cond-first (flipAccepted kind field) (Accepted (flipOf kind field)) Refused (Accepted flip) (λ p. let z : _≡_ {A = ℕ} 0 1 = cc in omega arith) e in
+    let f : Accepted (flipOf kind field) ≡ Accepted flip = r .1 in
+    (r .0, cc)
 
 pub read-refused : (kind : ℕ) (field : List ℕ) → readFlip kind field ≡ Refused → flipAccepted kind field ≡ false
 unfolding readFlip
-read-refused kind field = go (flipAccepted kind field) (flipOf kind field)
-  where
-    go : (b : Bool) (f : Flip) → readIf b f ≡ Refused → b ≡ false
-    go true f e = let z : _≡_ {A = ℕ} 0 1 = cc in absurd (omega arith)
-    go false f e = refl
+read-refused kind field e =
+    cond-second (flipAccepted kind field) (Accepted (flipOf kind field)) Refused Refused (λ p. let z : _≡_ {A = ℕ} 0 1 = cc in omega arith) e
+
+-- and in units
+pub units-accepted : (kind : ℕ) (field : List ℕ) (units : ℕ) → readUnits kind field ≡ Units units
+    → (flipAccepted kind field ≡ true) × (toUnits unitsInOne chanceScale (flipChance kind field) ≡ units)
+unfolding readUnits
+units-accepted kind field units e =
+    let n = toUnits unitsInOne chanceScale (flipChance kind field) in
+    let r = cond-first (flipAccepted kind field) (Units n) NoUnits (Units units) (λ p. let z : _≡_ {A = ℕ} 0 1 = cc in omega arith) e in
+    let f : Units n ≡ Units units = r .1 in
+    (r .0, cc)
+
+pub units-refused : (kind : ℕ) (field : List ℕ) → readUnits kind field ≡ NoUnits → flipAccepted kind field ≡ false
+unfolding readUnits
+units-refused kind field e =
+    cond-second (flipAccepted kind field) (Units (toUnits unitsInOne chanceScale (flipChance kind field))) NoUnits NoUnits (λ p. let z : _≡_ {A = ℕ} 0 1 = cc in omega arith) e
+
+-- ---- acceptance on the bits
+
+-- a plain chance is accepted up to the pattern of 1, and as minus zero
+pub plain-bits : (field : List ℕ) → wholeField field < 2 ^ 64
+    → flipAccepted 1 field ≡ chanceBits 0x3ff0_0000_0000_0000 0x8000_0000_0000_0000 (wholeField field)
+unfolding flipAccepted inRange
+plain-bits field h = range-of-bits binary64 (wholeField field) h
+
+-- and so is each number of a strike
+pub strike-bits : (field : List ℕ) → firstHalf field < 2 ^ 32 → secondHalf field < 2 ^ 32
+    → flipAccepted 2 field ≡ (chanceBits 0x3f80_0000 0x8000_0000 (firstHalf field) && chanceBits 0x3f80_0000 0x8000_0000 (secondHalf field))
+unfolding flipAccepted inRange
+strike-bits field h k =
+    ap (λ (b : Bool). b && fromZeroToOne (ofBits binary32 (secondHalf field))) (range-of-bits binary32 (firstHalf field) h)
+    ∙ ap (λ (b : Bool). chanceBits 0x3f80_0000 0x8000_0000 (firstHalf field) && b) (range-of-bits binary32 (secondHalf field) k)
 
 -- ---- bounds
 
@@ -110,13 +148,13 @@ plain-exact field h = go (ofBits binary64 (wholeField field)) (ofBits-fits binar
     go (inf s) t r = absurd (false≢true (unfold fromZeroToOne in r))
     go (fin s m e) t r = let p = den-power binary64 (fin s m e) t in whole-exact (num (fin s m e)) (den (fin s m e)) (p .0) (p .1) (p .2)
 
--- of a strike: the product of the two floats, each as its fraction, equals flipChance / 2^1074
-pub strike-exact : (field : List ℕ) →
+-- of a strike, by the library's own fractions
+strike-own : (field : List ℕ) →
     let x = ofBits binary32 (firstHalf field) in
     let y = ofBits binary32 (secondHalf field) in
     num x * num y * chanceScale ≡ flipChance 2 field * (den x * den y)
 unfolding flipChance flipOf chanceOf
-strike-exact field =
+strike-own field =
     let x = ofBits binary32 (firstHalf field) in
     let y = ofBits binary32 (secondHalf field) in
     let p = den-power binary32 x (ofBits-fits binary32 (firstHalf field)) in
@@ -124,3 +162,25 @@ strike-exact field =
     whole-exact (num x * num y) (den x * den y) (p .0 + q .0)
     (ap (λ (z : ℕ). z * den y) (p .1) ∙ ap (λ (z : ℕ). 2 ^ p .0 * z) (q .1) ∙ sym (pow-add 2 (p .0) (q .0)))
     (le-trans (add-le-add (p .2) (q .2)) (lit≤ tt))
+
+-- of a strike: whatever fractions the two floats equal, their product equals flipChance / 2^1074
+pub strike-exact : (field : List ℕ) (a c b d : ℕ)
+    → Equals (ofBits binary32 (firstHalf field)) a c → Equals (ofBits binary32 (secondHalf field)) b d
+    → a * b * chanceScale ≡ flipChance 2 field * (c * d)
+strike-exact field a c b d e f =
+    let x = ofBits binary32 (firstHalf field) in
+    let y = ofBits binary32 (secondHalf field) in
+    other-fractions (num x) (den x) a c (num y) (den y) b d chanceScale (flipChance 2 field) (den-pos x) (den-pos y) (cross x a c e) (cross y b d f) (strike-own field)
+  where
+    cross : (x : Float) (a c : ℕ) → Equals x a c → num x * c ≡ a * den x
+    cross nan a c v = absurd v
+    cross (inf t) a c v = absurd v
+    cross (fin t m e) a c v = v
+
+    other-fractions : (n p a c m q b d s k : ℕ) → 0 < p → 0 < q → n * c ≡ a * p → m * d ≡ b * q → n * m * s ≡ k * (p * q) → a * b * s ≡ k * (c * d)
+    other-fractions n p a c m q b d s k P Q e f g =
+        eq-of-mul-eq-mul-right (p * q) (mul-pos P Q) (a * b * s) (k * (c * d))
+        (let u : a * b * s * (p * q) ≡ a * p * (b * q) * s = simp (mul-assoc, mul-comm, mul-left-comm) in
+        let v : n * c * (m * d) * s ≡ n * m * s * (c * d) = simp (mul-assoc, mul-comm, mul-left-comm) in
+        let w : k * (p * q) * (c * d) ≡ k * (c * d) * (p * q) = simp (mul-assoc, mul-comm, mul-left-comm) in
+        u ∙ ap (λ (z : ℕ). z * (b * q) * s) (sym e) ∙ ap (λ (z : ℕ). n * c * z * s) (sym f) ∙ v ∙ ap (λ (z : ℕ). z * (c * d)) g ∙ w)

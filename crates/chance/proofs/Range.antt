@@ -13,6 +13,7 @@ use lib.Ieee.{Float, nan, inf, fin, Format, binary32, binary64, prec, emax, low,
 use lib.Ieee.Fits.{up-pos, down-pos}
 use lib.Ieee.Exact.{HasValue, odd-sign}
 use lib.Ieee.Order.{le-of-values}
+use lib.Ieee.Scale.{finite}
 use lib.Ieee.Bits.{is-true, nanBits-is}
 use Rattle.chance.specs.Number.{fromZeroToOne, chanceBits}
 
@@ -213,6 +214,12 @@ range-of-bits f b B =
     ∙ by-sign (top f) (emax f * hid f) b (one-below f) B
 
 -- ---- what a number from 0 to 1 is not
+
+pub range-finite : (x : Float) → fromZeroToOne x ≡ true → T (finite x)
+unfolding fromZeroToOne
+range-finite nan h = absurd (false≢true h)
+range-finite (inf s) h = absurd (false≢true h)
+range-finite (fin s m e) h = tt
 
 no-nan : (x : Float) → fromZeroToOne x ≡ true → isNan x ≡ false
 unfolding fromZeroToOne isNan

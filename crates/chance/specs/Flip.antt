@@ -1,6 +1,6 @@
 -- A gate's flip field, as its kind and the list of its eight bytes: document 01, "The netlist image".
 use Prim.Native.Nat.{ℕ, zero, suc, _+_, _*_}
-use mathlib.Core.Bool.{Bool, true, false, _&&_}
+use mathlib.Core.Bool.{Bool, true, false, cond, _&&_}
 use mathlib.Core.List.{List}
 use lib.ListN.{getD}
 use lib.Dec.{eqb}
@@ -35,27 +35,27 @@ plainOf bits = Plain (ofBits binary64 bits)
 abbrev pub strikeOf : ℕ → ℕ → Flip
 strikeOf chance window = Struck (record { chance = ofBits binary32 chance; window = ofBits binary32 window })
 
--- what a field of each kind says: 0 never, 1 an f64 chance, 2 an f32 strike chance and then an f32 latching window
+-- what a field of each kind says: 0 never, 1 a plain chance, 2 a strike chance in its first half and a latching window in its second
 unfoldable pub flipOf : ℕ → List ℕ → Flip
 flipOf zero field = Never
 flipOf (suc zero) field = plainOf (wholeField field)
 flipOf (suc (suc zero)) field = strikeOf (firstHalf field) (secondHalf field)
 flipOf (suc (suc (suc k))) field = Never
 
--- each float must be finite and from 0 to 1
+-- whether all floats of a flip can be chances, each by itself
 unfoldable pub inRange : Flip → Bool
 inRange Never = true
 inRange (Plain x) = fromZeroToOne x
 inRange (Struck s) = fromZeroToOne (s .chance) && fromZeroToOne (s .window)
 
--- kind 0 has eight zero bytes, kinds 1 and 2 have their floats in range, and there is no kind above 2
+-- which fields are accepted: of kind 0 only zero bytes, of kinds 1 and 2 floats in range, and none of a kind above 2
 unfoldable pub flipAccepted : ℕ → List ℕ → Bool
 flipAccepted zero field = eqb (wholeField field) 0
 flipAccepted (suc zero) field = inRange (plainOf (wholeField field))
 flipAccepted (suc (suc zero)) field = inRange (strikeOf (firstHalf field) (secondHalf field))
 flipAccepted (suc (suc (suc k))) field = false
 
--- the chance before conversion, as a whole number of 2^-1074: of a strike, the exact product of both numbers
+-- the chance before conversion, in 2^-1074; a strike has the exact product of its two numbers
 unfoldable pub chanceOf : Flip → ℕ
 chanceOf Never = 0
 chanceOf (Plain x) = wholeChance (num x) (den x)
@@ -66,16 +66,14 @@ flipChance kind field = chanceOf (flipOf kind field)
 
 -- the answer of reading a field: what it says, or refused
 abbrev pub readIf : Bool → Flip → FlipRead
-readIf true flip = Accepted flip
-readIf false flip = Refused
+readIf accepted flip = cond accepted (Accepted flip) Refused
 
 unfoldable pub readFlip : ℕ → List ℕ → FlipRead
 readFlip kind field = readIf (flipAccepted kind field) (flipOf kind field)
 
 -- the answer of reading a field in units: its chance converted once, or refused
 abbrev pub unitsIf : Bool → ℕ → FlipUnits
-unitsIf true units = Units units
-unitsIf false units = NoUnits
+unitsIf accepted units = cond accepted (Units units) NoUnits
 
 unfoldable pub readUnits : ℕ → List ℕ → FlipUnits
 readUnits kind field = unitsIf (flipAccepted kind field) (toUnits unitsInOne chanceScale (flipChance kind field))

@@ -1,10 +1,10 @@
--- Floats as chances: which are taken, by their IEEE value and by their bits, and how large each is as a whole number.
+-- Floats as chances: which can be one, by IEEE value and by bits, and how a fraction becomes a whole number. Document 01, "The netlist image".
 use Prim.Native.Nat.{ℕ, _*_, _/_, _^_}
 use mathlib.Core.Bool.{Bool, true, false, _||_}
 use lib.Dec.{leb, eqb}
 use lib.Ieee.{Float, nan, inf, fin, up, down}
 
--- every accepted chance is a whole number of 2^-1074: as many of these make 1
+-- chances are counted in 2^-1074, the smallest step of an f64: so many of them make 1
 unfoldable pub chanceScale : ℕ
 chanceScale = 2 ^ 1074
 
@@ -12,7 +12,7 @@ chanceScale = 2 ^ 1074
 unfoldable pub wholeChance : ℕ → ℕ → ℕ
 wholeChance n d = n * chanceScale / d
 
--- "finite and from 0 to 1": m × 2^e is at most 1; of the numbers with a minus sign only zero counts
+-- whether a float can be a chance: a number m × 2^e that is at most 1, or minus zero; no NaN, no infinity
 unfoldable pub fromZeroToOne : Float → Bool
 fromZeroToOne nan = false
 fromZeroToOne (inf s) = false

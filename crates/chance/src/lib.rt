@@ -85,7 +85,7 @@ fn read_plain(bits: u64) -> FlipRead
     }
 }
 
-// Each of the two numbers must be a chance by itself.
+// A bad number is refused even where the other one is 0.
 fn read_strike(chance: u32, window: u32) -> FlipRead
     ensures { λ r. ⌜ r ≡ readIf (inRange (strikeOf chance window)) (strikeOf chance window) ⌝ }
 {
@@ -131,8 +131,8 @@ pub fn read_flip(kind: u8, field: [u8; 8]) -> FlipRead
     }
 }
 
-// The one conversion of a chance to units: to the nearest, a half up. The product is exact and counts half units; the sum turns an
-// odd count, at least half a unit over, up.
+// The one place where a chance is rounded to units. The product is exact and counts half units; an odd count is a half over or more, and
+// goes up.
 fn nearest_units(chance: f64) -> u32
     requires { ⌜ fromZeroToOne chance ≡ true ⌝ }
     ensures { λ r. ⌜ r ≡ toUnits unitsInOne chanceScale (wholeChance (num chance) (den chance)) ⌝ }
