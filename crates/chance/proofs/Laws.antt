@@ -56,6 +56,11 @@ unfolding readFlip
 read-refused kind field e =
     cond-second (flipAccepted kind field) (Accepted (flipOf kind field)) Refused Refused (λ p. let z : _≡_ {A = ℕ} 0 1 = cc in omega arith) e
 
+-- the chance of the flip that was read is that of the field
+pub read-chance : (kind : ℕ) (field : List ℕ) (flip : Flip) → readFlip kind field ≡ Accepted flip → chanceOf flip ≡ flipChance kind field
+unfolding flipChance
+read-chance kind field flip e = ap chanceOf (sym (read-accepted kind field flip e .1))
+
 -- and in units
 pub units-accepted : (kind : ℕ) (field : List ℕ) (units : ℕ) → readUnits kind field ≡ Units units
     → (flipAccepted kind field ≡ true) × (toUnits unitsInOne chanceScale (flipChance kind field) ≡ units)
