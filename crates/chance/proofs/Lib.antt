@@ -1,0 +1,6 @@
+pub mod Range
+pub mod Exact
+pub mod Product
+pub mod Convert
+pub mod Laws
+pub mod Sheets

@@ -1,0 +1,61 @@
+-- `chance::strike_units` meets its contract: both numbers are in range, so neither is a NaN, and their product is exact and a chance
+-- (`Product`). Assumes nothing.
+use Prim.Native.Nat.{_*_}
+use mathlib.Core.Path.{_≡_, ap, _∙_}
+use mathlib.Core.Bool.{true, not, _&&_}
+use native.Mathlib.Nat.{mul-pos}
+use lib.Dec.{T}
+use lib.Ieee.{Float, binary32, binary64, mul, fits, isNan}
+use lib.Ieee.Fits.{and-i, fits-widens}
+use lib.Ieee.Positive.{num, den, den-pos}
+use Rattle.rounding.specs.Rounding.{unitsInOne, toUnits}
+use Rattle.chance.specs.Number.{chanceScale, fromZeroToOne}
+use Rattle.chance.specs.Flip.{inRange, chanceOf}
+use Rattle.chance.proofs.Range.{range-no-nan}
+use Rattle.chance.proofs.Laws.{and-true}
+use Rattle.chance.proofs.Product.{Known, struck, known-range, known-whole}
+use Rattle.chance.proofs.strike_units.Statement.{statement}
+use Rattle.chance.proofs.strike_units.Tie as tie
+
+-- each number's range, from what the function requires
+ranges : (c : tie.Start) → (fromZeroToOne (c .args .strike .chance) ≡ true) × (fromZeroToOne (c .args .strike .window) ≡ true)
+unfolding inRange
+ranges c = and-true (fromZeroToOne (c .args .strike .chance)) (fromZeroToOne (c .args .strike .window)) (c .pre)
+
+widens : (x : Float) → T (fits binary32 x) → fromZeroToOne x ≡ true → T (fits binary64 x && not (isNan x))
+widens x t h = and-i (fits binary64 x) (not (isNan x)) (fits-widens x t) (range-no-nan x h)
+
+float-to-float-chance : tie.Need-float-to-float-chance
+float-to-float-chance c = widens (c .before .args .strike .chance) (c .struct-known .given .0) (ranges (c .before) .0)
+
+float-to-float-window : tie.Need-float-to-float-window
+float-to-float-window c = widens (c .before .before .args .strike .window) (c .struct-known2 .given .1 .0) (ranges (c .before .before) .1)
+
+-- the product as a float
+known : (c : tie.After-struct-known2) →
+    let s = c .before .before .args .strike in
+    Known (mul binary64 (s .chance) (s .window)) (num (s .chance) * num (s .window)) (den (s .chance) * den (s .window)) 1
+known c =
+    let s = c .before .before .args .strike in
+    struck (s .chance) (s .window) (c .before .struct-known .given .0) (c .struct-known2 .given .1 .0) (ranges (c .before .before) .0) (ranges (c .before .before) .1)
+
+nearest-units-requires : tie.Need-nearest-units-requires
+nearest-units-requires c κs =
+    let s = c .before .before .args .strike in
+    known-range (mul binary64 (s .chance) (s .window)) (num (s .chance) * num (s .window)) (den (s .chance) * den (s .window))
+    (mul-pos (den-pos (s .chance)) (den-pos (s .window)))
+    (known c)
+
+returns : tie.Need-returns
+unfolding chanceOf
+returns c =
+    let s = c .before .before .before .args .strike in
+    c .nearest-units .ensures
+    ∙ ap (toUnits unitsInOne chanceScale)
+    (known-whole (mul binary64 (s .chance) (s .window)) (num (s .chance) * num (s .window)) (den (s .chance) * den (s .window))
+    (mul-pos (den-pos (s .chance)) (den-pos (s .window)))
+    (known (c .before)))
+
+pub strike-units-spec : {M : Type 1} → statement M
+strike-units-spec =
+    tie.close (tie.spec float-to-float-chance float-to-float-window nearest-units-requires returns)
