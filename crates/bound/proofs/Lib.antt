@@ -1,0 +1,4 @@
+pub mod Near
+pub mod Mix
+pub mod Bits
+pub mod Replace

@@ -1,0 +1,165 @@
+-- The error argument: one gate after another is replaced by an independent bit that is wrong with its rounded failure. Replacing a live gate moves
+-- the sum by that gate's own rounding at most, its charge in half units; replacing a dead gate moves nothing. No error is carried through gates.
+-- What a gate does is abstract here: with the pins' errors bs it is right with weight ok g bs and wrong with weight bad g bs. Assumes nothing.
+use Prim.Native.Nat.{ℕ, zero, suc, _+_, _*_, _^_, _≤_, _<_}
+use mathlib.Core.Bool.{Bool, true, false, cond}
+use mathlib.Core.List.{List, [], _∷_, _++_, map, append-nil}
+use mathlib.Core.Path.{_≡_, refl, sym, ap, ap₂, subst, fun-ext, _∙_}
+use native.Mathlib.Nat.{pow-zero, pow-succ', one-mul, mul-one, zero-mul, mul-le-mul-left, mul-le-mul, add-zero, one-le-pow}
+use native.Mathlib.Omega.{arith}
+use lib.ListN.{length, getD}
+use lib.Dec.{eqb}
+use Rattle.rounding.proofs.Laws.{Near}
+use Rattle.netlist.specs.Netlist.{Gate, noGate}
+use Rattle.netlist.specs.WellFormed.{Below}
+use Rattle.netlist.specs.Live.{count, ifRead, withGate, liveReadsFrom}
+use Rattle.netlist.proofs.Count.{count-self, count-append}
+use Rattle.bound.proofs.Near.{near-at, near-trans, near-cancel, replace-mean}
+use Rattle.bound.proofs.Mix.{upd, upd-other, mix, mix-same, mix-linear, mix-add, mix-const, mix-at-most}
+use Rattle.bound.proofs.Bits.{ReadsOnly, unread, foldBits, bits-add, bits-const, Once, fold-law}
+
+-- P holds of each gate with its source, the first being s
+abbrev pub AllFrom : (ℕ → Gate → Type 0) → ℕ → List Gate → Type 0
+AllFrom P s gs = (j : ℕ) → j < length gs → P (s + j) (getD gs j noGate)
+
+pub all-head : (P : ℕ → Gate → Type 0) (s : ℕ) (g : Gate) (gs : List Gate) → AllFrom P s (g ∷ gs) → P s g
+all-head P s g gs h = subst (λ (t : ℕ). P t g) (add-zero s) (h 0 (omega arith))
+
+pub all-tail : (P : ℕ → Gate → Type 0) (s : ℕ) (g : Gate) (gs : List Gate) → AllFrom P s (g ∷ gs) → AllFrom P (suc s) gs
+all-tail P s g gs h j l = subst (λ (t : ℕ). P t (getD gs j noGate)) (omega arith) (h (suc j) (omega arith))
+
+map-agree : (e e′ : ℕ → Bool) (ps : List ℕ) → ((t : ℕ) → 0 < count t ps → e t ≡ e′ t) → map e ps ≡ map e′ ps
+map-agree e e′ [] h = refl
+map-agree e e′ (p ∷ ps) h =
+    ap₂ _∷_ (h p (omega (arith, count-self p ps))) (map-agree e e′ ps (λ t k. h t (omega arith)))
+
+-- the charge of a gate with so many live readers: nothing if it has none
+abbrev pub charged : ℕ → ℕ → ℕ
+charged zero charge = 0
+charged (suc readers) charge = charge
+
+-- the charges of the live ones of these gates
+abbrev pub charges : List ℕ → (Gate → ℕ) → ℕ → List Gate → ℕ
+charges outputs charge s [] = 0
+charges outputs charge s (g ∷ gs) = charged (count s (liveReadsFrom outputs (suc s) gs)) (charge g) + charges outputs charge (suc s) gs
+
+module _ (outputs : List ℕ) (allRight : List Bool → ℕ) (ok bad : Gate → List Bool → ℕ) where
+  -- the sum over the flips of these gates, from the errors e of the sources before them
+  abbrev pub sumFrom : ℕ → List Gate → (ℕ → Bool) → ℕ
+  sumFrom s [] e = allRight (map e outputs)
+  sumFrom s (g ∷ gs) e =
+      ok g (map e (g .pins)) * sumFrom (suc s) gs (upd e s false) + bad g (map e (g .pins)) * sumFrom (suc s) gs (upd e s true)
+
+  module _ (mass : ℕ) (gate-sums : (g : Gate) (bs : List Bool) → ok g bs + bad g bs ≡ mass) where
+    sum-at-most : ((bs : List Bool) → allRight bs ≤ 1) → (s : ℕ) (gs : List Gate) (e : ℕ → Bool) → sumFrom s gs e ≤ mass ^ length gs
+    sum-at-most one s [] e = omega (arith, pow-zero mass, one (map e outputs))
+    sum-at-most one s (g ∷ gs) e =
+        let bs = map e (g .pins) in
+        omega (
+          arith,
+          mul-le-mul-left (ok g bs) (sum-at-most one (suc s) gs (upd e s false)),
+          mul-le-mul-left (bad g bs) (sum-at-most one (suc s) gs (upd e s true)),
+          ap (λ (z : ℕ). z * mass ^ length gs) (gate-sums g bs),
+          pow-succ' mass (length gs),
+        )
+
+    -- a gate that nothing reads leaves its factor alone
+    dead-sum : (s : ℕ) (g : Gate) (gs : List Gate) (e : ℕ → Bool) (z : ℕ) → sumFrom (suc s) gs (upd e s false) ≡ z → sumFrom (suc s) gs (upd e s true) ≡ z
+        → sumFrom s (g ∷ gs) e ≡ mass * z
+    dead-sum s g gs e z f t =
+        let bs = map e (g .pins) in
+        ap₂ (λ (x y : ℕ). ok g bs * x + bad g bs * y) f t ∙ omega (arith, ap (λ (k : ℕ). k * z) (gate-sums g bs))
+
+    -- what follows a dead gate reads it nowhere, and so none of its pins
+    reads-dead : (s : ℕ) (g : Gate) (gs : List Gate) (later : List ℕ) → ReadsOnly later (sumFrom (suc s) gs) → count s later ≡ 0
+        → ReadsOnly later (sumFrom s (g ∷ gs))
+    reads-dead s g gs later only none e e′ h =
+        let Z : (ℕ → Bool) → ℕ = sumFrom (suc s) gs in
+        let f : Z (upd e s false) ≡ Z e = unread later Z only s none e false in
+        let t : Z (upd e s true) ≡ Z e = unread later Z only s none e true in
+        let f′ : Z (upd e′ s false) ≡ Z e = unread later Z only s none e′ false ∙ sym (only e e′ h) in
+        let t′ : Z (upd e′ s true) ≡ Z e = unread later Z only s none e′ true ∙ sym (only e e′ h) in
+        (dead-sum s g gs e (Z e) f t) ∙ sym (dead-sum s g gs e′ (Z e) f′ t′)
+
+    reads-live : (s : ℕ) (g : Gate) (gs : List Gate) (later : List ℕ) → ReadsOnly later (sumFrom (suc s) gs)
+        → ReadsOnly (g .pins ++ later) (sumFrom s (g ∷ gs))
+    reads-live s g gs later only e e′ h =
+        let Z : (ℕ → Bool) → ℕ = sumFrom (suc s) gs in
+        let pins : map e (g .pins) ≡ map e′ (g .pins) = map-agree e e′ (g .pins) (λ t k. h t (omega (arith, count-append t (g .pins) later))) in
+        let after : (b : Bool) → Z (upd e s b) ≡ Z (upd e′ s b)
+        = λ b. only (upd e s b) (upd e′ s b) (λ t k. ap (cond (eqb t s) b) (h t (omega (arith, count-append t (g .pins) later)))) in
+        ap₂ _+_ (ap₂ _*_ (ap (ok g) pins) (after false)) (ap₂ _*_ (ap (bad g) pins) (after true))
+
+    -- what follows a gate reads only the live reads after it
+    pub sum-reads : (s : ℕ) (gs : List Gate) → ReadsOnly (liveReadsFrom outputs s gs) (sumFrom s gs)
+    sum-reads s [] = λ e e′ h. ap allRight (map-agree e e′ outputs h)
+    sum-reads s (g ∷ gs) = go (count s (liveReadsFrom outputs (suc s) gs)) refl (sum-reads (suc s) gs)
+      where
+        go : (c : ℕ) → count s (liveReadsFrom outputs (suc s) gs) ≡ c → ReadsOnly (liveReadsFrom outputs (suc s) gs) (sumFrom (suc s) gs)
+            → ReadsOnly (ifRead c (g .pins) (liveReadsFrom outputs (suc s) gs)) (sumFrom s (g ∷ gs))
+        go zero q ih = reads-dead s g gs (liveReadsFrom outputs (suc s) gs) ih q
+        go (suc c) q ih = reads-live s g gs (liveReadsFrom outputs (suc s) gs) ih
+
+    module _ (w₀ w₁ : ℕ → ℕ) (sums : (s : ℕ) → w₀ s + w₁ s ≡ mass) where
+      dead-step : (s : ℕ) (g : Gate) (gs : List Gate) → count s (liveReadsFrom outputs (suc s) gs) ≡ 0
+          → mix w₀ w₁ (suc s) (sumFrom (suc s) gs) ≡ mix w₀ w₁ s (sumFrom s (g ∷ gs))
+      dead-step s g gs none =
+          let Z : (ℕ → Bool) → ℕ = sumFrom (suc s) gs in
+          let free : (b : Bool) (e : ℕ → Bool) → Z (upd e s b) ≡ Z e = λ b e. unread (liveReadsFrom outputs (suc s) gs) Z (sum-reads (suc s) gs) s none e b in
+          let one : mix w₀ w₁ s (sumFrom s (g ∷ gs)) ≡ mass * mix w₀ w₁ s Z + 0 * mix w₀ w₁ s Z
+          = mix-same w₀ w₁ s _ _ (λ e. dead-sum s g gs e (Z e) (free false e) (free true e) ∙ omega arith) ∙ mix-linear w₀ w₁ s mass 0 Z Z in
+          let two : mix w₀ w₁ (suc s) Z ≡ w₀ s * mix w₀ w₁ s Z + w₁ s * mix w₀ w₁ s Z
+          = ap₂ (λ (x y : ℕ). w₀ s * x + w₁ s * y) (mix-same w₀ w₁ s _ _ (free false)) (mix-same w₀ w₁ s _ _ (free true)) in
+          omega (arith, ap (λ (z : ℕ). z * mix w₀ w₁ s Z) (sums s))
+
+      module _ (pos : 0 < mass) (u : ℕ) (one : (bs : List Bool) → allRight bs ≤ 1) (charge : Gate → ℕ) where
+        -- a gate by itself: with independent pins it is wrong with nearly the weight of its bit
+        abbrev pub Local : ℕ → Gate → Type 0
+        Local s g =
+            Near
+            (charge g * (mass ^ length (g .pins) * mass))
+            (2 * (u * (mass ^ length (g .pins) * w₁ s)))
+            (2 * (u * foldBits w₀ w₁ (g .pins) (bad g)))
+
+        live-step : (s : ℕ) (g : Gate) (gs : List Gate) → Below s (g .pins) → Once w₀ w₁ mass sums (g .pins ++ liveReadsFrom outputs (suc s) gs) → Local s g
+            → Near
+            (charge g * (mass * (mass ^ s * mass ^ length gs)))
+            (2 * (u * mix w₀ w₁ (suc s) (sumFrom (suc s) gs)))
+            (2 * (u * mix w₀ w₁ s (sumFrom s (g ∷ gs))))
+        live-step s g gs below once near =
+            let ps = g .pins in
+            let M : ((ℕ → Bool) → ℕ) → ℕ = mix w₀ w₁ s in
+            let A : (ℕ → Bool) → ℕ = λ e. sumFrom (suc s) gs (upd e s false) in
+            let B : (ℕ → Bool) → ℕ = λ e. sumFrom (suc s) gs (upd e s true) in
+            let reads : (b : Bool) → ReadsOnly (liveReadsFrom outputs (suc s) gs) (λ e. sumFrom (suc s) gs (upd e s b))
+            = λ b e e′ h. sum-reads (suc s) gs (upd e s b) (upd e′ s b) (λ t k. ap (cond (eqb t s) b) (h t k)) in
+            let low : mass ^ length ps * M (λ e. ok g (map e ps) * A e) ≡ foldBits w₀ w₁ ps (ok g) * M A
+            = fold-law w₀ w₁ mass sums s (liveReadsFrom outputs (suc s) gs) A (reads false) ps below once (ok g) in
+            let high : mass ^ length ps * M (λ e. bad g (map e ps) * B e) ≡ foldBits w₀ w₁ ps (bad g) * M B
+            = fold-law w₀ w₁ mass sums s (liveReadsFrom outputs (suc s) gs) B (reads true) ps below once (bad g) in
+            let parts : M (sumFrom s (g ∷ gs)) ≡ M (λ e. ok g (map e ps) * A e) + M (λ e. bad g (map e ps) * B e)
+            = mix-add w₀ w₁ s (λ e. ok g (map e ps) * A e) (λ e. bad g (map e ps) * B e) in
+            let whole : foldBits w₀ w₁ ps (ok g) + foldBits w₀ w₁ ps (bad g) ≡ mass ^ length ps * mass
+            = sym (bits-add w₀ w₁ ps (ok g) (bad g)) ∙ ap (foldBits w₀ w₁ ps) (fun-ext (gate-sums g)) ∙ bits-const w₀ w₁ mass sums ps mass in
+            replace-mean
+            u
+            (charge g)
+            (mass ^ length ps)
+            mass
+            (mass ^ s * mass ^ length gs)
+            (w₀ s)
+            (w₁ s)
+            (foldBits w₀ w₁ ps (ok g))
+            (foldBits w₀ w₁ ps (bad g))
+            (M A)
+            (M B)
+            (M (sumFrom s (g ∷ gs)))
+            (mix w₀ w₁ (suc s) (sumFrom (suc s) gs))
+            (one-le-pow (length ps) mass pos)
+            (sums s)
+            whole
+            near
+            (mix-at-most w₀ w₁ mass sums s (mass ^ length gs) A (λ e. sum-at-most one (suc s) gs (upd e s false)))
+            (mix-at-most w₀ w₁ mass sums s (mass ^ length gs) B (λ e. sum-at-most one (suc s) gs (upd e s true)))
+            (omega (arith, ap (λ (z : ℕ). mass ^ length ps * z) parts))
+            refl
