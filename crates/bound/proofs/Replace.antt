@@ -8,13 +8,14 @@ use mathlib.Core.Path.{_≡_, refl, sym, ap, ap₂, subst, fun-ext, _∙_}
 use native.Mathlib.Nat.{pow-zero, pow-succ', one-mul, mul-one, zero-mul, mul-le-mul-left, mul-le-mul, add-zero, one-le-pow}
 use native.Mathlib.Omega.{arith}
 use lib.ListN.{length, getD}
+use lib.Pow.{pow-add}
 use lib.Dec.{eqb}
 use Rattle.rounding.proofs.Laws.{Near}
 use Rattle.netlist.specs.Netlist.{Gate, noGate}
 use Rattle.netlist.specs.WellFormed.{Below}
 use Rattle.netlist.specs.Live.{count, ifRead, withGate, liveReadsFrom}
 use Rattle.netlist.proofs.Count.{count-self, count-append}
-use Rattle.bound.proofs.Near.{near-at, near-trans, near-cancel, replace-mean}
+use Rattle.bound.proofs.Near.{near-at, near-trans, near-scale, near-cancel, replace-mean}
 use Rattle.bound.proofs.Mix.{upd, upd-other, mix, mix-same, mix-linear, mix-add, mix-const, mix-at-most}
 use Rattle.bound.proofs.Bits.{ReadsOnly, unread, foldBits, bits-add, bits-const, Once, fold-law}
 
@@ -163,3 +164,70 @@ module _ (outputs : List ℕ) (allRight : List Bool → ℕ) (ok bad : Gate → 
             (mix-at-most w₀ w₁ mass sums s (mass ^ length gs) B (λ e. sum-at-most one (suc s) gs (upd e s true)))
             (omega (arith, ap (λ (z : ℕ). mass ^ length ps * z) parts))
             refl
+
+        -- a live gate costs its charge, a dead one nothing
+        step : (s : ℕ) (g : Gate) (gs : List Gate) (end : ℕ) → s + suc (length gs) ≡ end → Below s (g .pins) → Local s g
+            → (c : ℕ) → count s (liveReadsFrom outputs (suc s) gs) ≡ c → Once w₀ w₁ mass sums (ifRead c (g .pins) (liveReadsFrom outputs (suc s) gs))
+            → Near
+            (charged c (charge g) * mass ^ end)
+            (2 * (u * mix w₀ w₁ (suc s) (sumFrom (suc s) gs)))
+            (2 * (u * mix w₀ w₁ s (sumFrom s (g ∷ gs))))
+        step s g gs end e below near zero none once =
+            let same = ap (λ (z : ℕ). u * z) (dead-step s g gs none) in
+            omega arith
+        step s g gs end e below near (suc c) some once =
+            let full : mass * (mass ^ s * mass ^ length gs) ≡ mass ^ end
+            = omega (arith, pow-add mass s (suc (length gs)), ap (λ (k : ℕ). mass ^ k) e, ap (λ (z : ℕ). mass ^ s * z) (pow-succ' mass (length gs))) in
+            near-at (ap (λ (z : ℕ). charge g * z) full) refl refl (live-step s g gs below once near)
+
+        later-once : (c : ℕ) (ps rs : List ℕ) → Once w₀ w₁ mass sums (ifRead c ps rs) → Once w₀ w₁ mass sums rs
+        later-once zero ps rs once p h = once p h
+        later-once (suc c) ps rs once p h = omega (arith, once p h, count-append p ps rs)
+
+        -- all gates replaced, the first first
+        pub replace-all : (s : ℕ) (gs : List Gate) (end : ℕ) → s + length gs ≡ end → AllFrom (λ t g. Below t (g .pins)) s gs
+            → AllFrom Local s gs → Once w₀ w₁ mass sums (liveReadsFrom outputs s gs)
+            → Near
+            (charges outputs charge s gs * mass ^ end)
+            (2 * (u * mix w₀ w₁ end (λ e. allRight (map e outputs))))
+            (2 * (u * mix w₀ w₁ s (sumFrom s gs)))
+        replace-all s [] end e below near once =
+            let same : mix w₀ w₁ end (λ e. allRight (map e outputs)) ≡ mix w₀ w₁ s (λ e. allRight (map e outputs))
+            = ap (λ (k : ℕ). mix w₀ w₁ k (λ e. allRight (map e outputs))) (sym e ∙ add-zero s) in
+            omega (arith, ap (λ (z : ℕ). u * z) same)
+        replace-all s (g ∷ gs) end e below near once =
+            let c = count s (liveReadsFrom outputs (suc s) gs) in
+            let first = step s g gs end e (all-head (λ t g. Below t (g .pins)) s g gs below) (all-head Local s g gs near) c refl once in
+            let others =
+            replace-all
+            (suc s)
+            gs
+            end
+            (omega arith)
+            (all-tail (λ t g. Below t (g .pins)) s g gs below)
+            (all-tail Local s g gs near)
+            (later-once c (g .pins) (liveReadsFrom outputs (suc s) gs) once) in
+            near-at (omega arith) refl refl (near-trans others first)
+
+        -- the outputs are folded like a gate's pins
+        pub replace-outputs : (end out rel : ℕ) → Below end outputs → Once w₀ w₁ mass sums outputs
+            → Near (out * mass ^ length outputs) (2 * (rel * mass ^ length outputs)) (2 * (u * foldBits w₀ w₁ outputs allRight))
+            → Near (out * mass ^ end) (2 * (rel * mass ^ end)) (2 * (u * mix w₀ w₁ end (λ e. allRight (map e outputs))))
+        replace-outputs end out rel below once near =
+            let P = mass ^ length outputs in
+            let φ = foldBits w₀ w₁ outputs allRight in
+            let X = mix w₀ w₁ end (λ e. allRight (map e outputs)) in
+            let law : P * mix w₀ w₁ end (λ e. allRight (map e outputs) * 1) ≡ φ * mix w₀ w₁ end (λ e. 1)
+            = fold-law w₀ w₁ mass sums end [] (λ e. 1) (λ e e′ h. refl) outputs below (λ p h. omega (arith, once p h, ap (count p) (append-nil outputs))) allRight in
+            let whole : P * X ≡ φ * mass ^ end
+            = ap (λ (z : ℕ). P * z) (mix-same w₀ w₁ end _ _ (λ e. omega arith)) ∙ law ∙ ap (λ (z : ℕ). φ * z) (mix-const w₀ w₁ mass sums end 1 ∙ mul-one (mass ^ end)) in
+            let e : mass ^ end * (out * P) ≡ P * (out * mass ^ end) = omega arith in
+            let a : mass ^ end * (2 * (rel * P)) ≡ P * (2 * (rel * mass ^ end)) = omega arith in
+            let b : mass ^ end * (2 * (u * φ)) ≡ P * (2 * (u * X)) = omega (arith, ap (λ (z : ℕ). u * z) whole) in
+            near-cancel
+            P
+            (out * mass ^ end)
+            (2 * (rel * mass ^ end))
+            (2 * (u * X))
+            (one-le-pow (length outputs) mass pos)
+            (near-at e a b (near-scale (mass ^ end) near))

@@ -1,1 +1,4 @@
 pub mod Count
+pub mod Grow
+pub mod Values
+pub mod Failures
