@@ -14,8 +14,9 @@ use Rattle.netlist.specs.Netlist.{Gate, Netlist, noGate, pinValues, values}
 use Rattle.netlist.specs.WellFormed.{Below}
 use Rattle.netlist.specs.Exact.{sumOverFlips, weight, outputsAgree}
 use Rattle.netlist.proofs.Count.{below-tail}
+use Rattle.netlist.proofs.Each.{AllFrom, all-head, all-tail, pinsBelow}
 use Rattle.bound.proofs.Mix.{upd, upd-same, upd-other}
-use Rattle.bound.proofs.Replace.{AllFrom, all-head, all-tail, sumFrom}
+use Rattle.bound.proofs.Replace.{sumFrom}
 use Rattle.bound.proofs.Weights.{ifRight, unmoved, keepWeight, flipWeight, ok, bad}
 
 pub sum-scale : (k c : ℕ) (F : List Bool → ℕ) → sumOverFlips k (λ flips. c * F flips) ≡ c * sumOverFlips k F
@@ -112,7 +113,7 @@ module _ (u d : ℕ) (outputs : List ℕ) (rs : List Bool) where
   by-case false keep flip x y F p q = ap₂ (λ (a b : ℕ). keep * a + flip * b) p q ∙ omega arith
 
   pub literal : (s : ℕ) (gs : List Gate) (vs : List Bool) (e : ℕ → Bool) → length vs ≡ s → Wrong rs s vs e
-      → AllFrom (λ t g. Below t (g .pins)) s gs → AllFrom (λ t g. g .chance ≤ d) s gs
+      → AllFrom pinsBelow s gs → AllFrom (λ t g. g .chance ≤ d) s gs
       → AllFrom (λ t g. getD rs t false ≡ answer (g .table) (pinValues rs (g .pins))) s gs
       → Below (s + length gs) outputs
       → u ^ length gs * flipSum gs vs ≡ errorSum s gs e
@@ -122,7 +123,7 @@ module _ (u d : ℕ) (outputs : List ℕ) (rs : List Bool) where
       let a = answer (g .table) (pinValues vs (g .pins)) in
       let r = answer (g .table) (pinValues rs (g .pins)) in
       let pins : pinValues vs (g .pins) ≡ inverted (pinValues rs (g .pins)) (map e (g .pins))
-      = pins-wrong rs s vs e wrong (g .pins) (all-head (λ t g. Below t (g .pins)) s g gs below) in
+      = pins-wrong rs s vs e wrong (g .pins) (all-head pinsBelow s g gs below) in
       let m = unmoved rs g (map e (g .pins)) in
       let moved : Bool·beq a r ≡ m = ap (λ (ws : List Bool). Bool·beq (answer (g .table) ws) r) pins in
       let value : (flip : Bool) → invertIf flip a ≡ invertIf (wrongBit m flip) (getD rs s false)
@@ -136,7 +137,7 @@ module _ (u d : ℕ) (outputs : List ℕ) (rs : List Bool) where
       (upd e s (wrongBit m flip))
       (omega (arith, length-append vs (invertIf flip a ∷ [])))
       (wrong-next rs s vs e size wrong (invertIf flip a) (wrongBit m flip) (value flip))
-      (all-tail (λ t g. Below t (g .pins)) s g gs below)
+      (all-tail pinsBelow s g gs below)
       (all-tail (λ t g. g .chance ≤ d) s g gs chances)
       (all-tail (λ t g. getD rs t false ≡ answer (g .table) (pinValues rs (g .pins))) s g gs right)
       (λ i l. omega (arith, outs i l)) in

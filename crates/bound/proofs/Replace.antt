@@ -11,38 +11,25 @@ use lib.ListN.{length, getD}
 use lib.Pow.{pow-add}
 use lib.Dec.{eqb}
 use Rattle.rounding.proofs.Laws.{Near}
-use Rattle.netlist.specs.Netlist.{Gate, noGate}
+use Rattle.netlist.specs.Netlist.{Gate}
 use Rattle.netlist.specs.WellFormed.{Below}
-use Rattle.netlist.specs.Live.{count, ifRead, withGate, liveReadsFrom}
+use Rattle.netlist.specs.Live.{count, isLive, withGate, liveReadsFrom}
 use Rattle.netlist.proofs.Count.{count-self, count-append}
+use Rattle.netlist.proofs.Each.{AllFrom, all-head, all-tail, pinsBelow}
+use Rattle.netlist.proofs.Live.{ifLive}
 use Rattle.bound.proofs.Near.{near-at, near-trans, near-scale, near-cancel, replace-mean}
 use Rattle.bound.proofs.Mix.{upd, upd-other, mix, mix-same, mix-linear, mix-add, mix-const, mix-at-most}
 use Rattle.bound.proofs.Bits.{ReadsOnly, unread, foldBits, bits-add, bits-const, Once, fold-law}
-
--- P holds of each gate with its source, the first being s
-abbrev pub AllFrom : (ℕ → Gate → Type 0) → ℕ → List Gate → Type 0
-AllFrom P s gs = (j : ℕ) → j < length gs → P (s + j) (getD gs j noGate)
-
-pub all-head : (P : ℕ → Gate → Type 0) (s : ℕ) (g : Gate) (gs : List Gate) → AllFrom P s (g ∷ gs) → P s g
-all-head P s g gs h = subst (λ (t : ℕ). P t g) (add-zero s) (h 0 (omega arith))
-
-pub all-tail : (P : ℕ → Gate → Type 0) (s : ℕ) (g : Gate) (gs : List Gate) → AllFrom P s (g ∷ gs) → AllFrom P (suc s) gs
-all-tail P s g gs h j l = subst (λ (t : ℕ). P t (getD gs j noGate)) (omega arith) (h (suc j) (omega arith))
 
 map-agree : (e e′ : ℕ → Bool) (ps : List ℕ) → ((t : ℕ) → 0 < count t ps → e t ≡ e′ t) → map e ps ≡ map e′ ps
 map-agree e e′ [] h = refl
 map-agree e e′ (p ∷ ps) h =
     ap₂ _∷_ (h p (omega (arith, count-self p ps))) (map-agree e e′ ps (λ t k. h t (omega arith)))
 
--- the charge of a gate with so many live readers: nothing if it has none
-abbrev pub charged : ℕ → ℕ → ℕ
-charged zero charge = 0
-charged (suc readers) charge = charge
-
 -- the charges of the live ones of these gates
 abbrev pub charges : List ℕ → (Gate → ℕ) → ℕ → List Gate → ℕ
 charges outputs charge s [] = 0
-charges outputs charge s (g ∷ gs) = charged (count s (liveReadsFrom outputs (suc s) gs)) (charge g) + charges outputs charge (suc s) gs
+charges outputs charge s (g ∷ gs) = ifLive (count s (liveReadsFrom outputs (suc s) gs)) (charge g) + charges outputs charge (suc s) gs
 
 module _ (outputs : List ℕ) (allRight : List Bool → ℕ) (ok bad : Gate → List Bool → ℕ) where
   -- the sum over the flips of these gates, from the errors e of the sources before them
@@ -97,7 +84,7 @@ module _ (outputs : List ℕ) (allRight : List Bool → ℕ) (ok bad : Gate → 
     sum-reads s (g ∷ gs) = go (count s (liveReadsFrom outputs (suc s) gs)) refl (sum-reads (suc s) gs)
       where
         go : (c : ℕ) → count s (liveReadsFrom outputs (suc s) gs) ≡ c → ReadsOnly (liveReadsFrom outputs (suc s) gs) (sumFrom (suc s) gs)
-            → ReadsOnly (ifRead c (g .pins) (liveReadsFrom outputs (suc s) gs)) (sumFrom s (g ∷ gs))
+            → ReadsOnly (cond (isLive c) (g .pins ++ liveReadsFrom outputs (suc s) gs) (liveReadsFrom outputs (suc s) gs)) (sumFrom s (g ∷ gs))
         go zero q ih = reads-dead s g gs (liveReadsFrom outputs (suc s) gs) ih q
         go (suc c) q ih = reads-live s g gs (liveReadsFrom outputs (suc s) gs) ih
 
@@ -167,9 +154,9 @@ module _ (outputs : List ℕ) (allRight : List Bool → ℕ) (ok bad : Gate → 
 
         -- a live gate costs its charge, a dead one nothing
         step : (s : ℕ) (g : Gate) (gs : List Gate) (end : ℕ) → s + suc (length gs) ≡ end → Below s (g .pins) → Local s g
-            → (c : ℕ) → count s (liveReadsFrom outputs (suc s) gs) ≡ c → Once w₀ w₁ mass sums (ifRead c (g .pins) (liveReadsFrom outputs (suc s) gs))
+            → (c : ℕ) → count s (liveReadsFrom outputs (suc s) gs) ≡ c → Once w₀ w₁ mass sums (cond (isLive c) (g .pins ++ liveReadsFrom outputs (suc s) gs) (liveReadsFrom outputs (suc s) gs))
             → Near
-            (charged c (charge g) * mass ^ end)
+            (ifLive c (charge g) * mass ^ end)
             (2 * (u * mix w₀ w₁ (suc s) (sumFrom (suc s) gs)))
             (2 * (u * mix w₀ w₁ s (sumFrom s (g ∷ gs))))
         step s g gs end e below near zero none once =
@@ -180,12 +167,12 @@ module _ (outputs : List ℕ) (allRight : List Bool → ℕ) (ok bad : Gate → 
             = omega (arith, pow-add mass s (suc (length gs)), ap (λ (k : ℕ). mass ^ k) e, ap (λ (z : ℕ). mass ^ s * z) (pow-succ' mass (length gs))) in
             near-at (ap (λ (z : ℕ). charge g * z) full) refl refl (live-step s g gs below once near)
 
-        later-once : (c : ℕ) (ps rs : List ℕ) → Once w₀ w₁ mass sums (ifRead c ps rs) → Once w₀ w₁ mass sums rs
+        later-once : (c : ℕ) (ps rs : List ℕ) → Once w₀ w₁ mass sums (cond (isLive c) (ps ++ rs) rs) → Once w₀ w₁ mass sums rs
         later-once zero ps rs once p h = once p h
         later-once (suc c) ps rs once p h = omega (arith, once p h, count-append p ps rs)
 
         -- all gates replaced, the first first
-        pub replace-all : (s : ℕ) (gs : List Gate) (end : ℕ) → s + length gs ≡ end → AllFrom (λ t g. Below t (g .pins)) s gs
+        pub replace-all : (s : ℕ) (gs : List Gate) (end : ℕ) → s + length gs ≡ end → AllFrom pinsBelow s gs
             → AllFrom Local s gs → Once w₀ w₁ mass sums (liveReadsFrom outputs s gs)
             → Near
             (charges outputs charge s gs * mass ^ end)
@@ -197,14 +184,14 @@ module _ (outputs : List ℕ) (allRight : List Bool → ℕ) (ok bad : Gate → 
             omega (arith, ap (λ (z : ℕ). u * z) same)
         replace-all s (g ∷ gs) end e below near once =
             let c = count s (liveReadsFrom outputs (suc s) gs) in
-            let first = step s g gs end e (all-head (λ t g. Below t (g .pins)) s g gs below) (all-head Local s g gs near) c refl once in
+            let first = step s g gs end e (all-head pinsBelow s g gs below) (all-head Local s g gs near) c refl once in
             let others =
             replace-all
             (suc s)
             gs
             end
             (omega arith)
-            (all-tail (λ t g. Below t (g .pins)) s g gs below)
+            (all-tail pinsBelow s g gs below)
             (all-tail Local s g gs near)
             (later-once c (g .pins) (liveReadsFrom outputs (suc s) gs) once) in
             near-at (omega arith) refl refl (near-trans others first)

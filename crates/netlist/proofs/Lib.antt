@@ -1,4 +1,6 @@
 pub mod Count
+pub mod Each
 pub mod Grow
 pub mod Values
 pub mod Failures
+pub mod Live

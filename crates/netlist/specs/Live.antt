@@ -1,24 +1,26 @@
 -- Live gates and readers of document 01, "The figures", as counts of one multiset: the reads by outputs and by pins of live gates.
 -- proofs/Live.antt shows that these counts meet the document's own sentences.
 use Prim.Native.Nat.{ℕ, zero, suc, _+_, _≤_, _<_}
+use mathlib.Core.Bool.{Bool, true, false, cond}
 use mathlib.Core.List.{List, [], _∷_, _++_}
 use lib.ListN.{length}
-use lib.Dec.{eqb, ltb}
+use lib.Dec.{eqb}
 use Rattle.figure.specs.Figure.{bitOf}
-use Rattle.netlist.specs.Netlist.{Gate, Netlist}
+use Rattle.netlist.specs.Netlist.{Gate, Netlist, gateAt}
 
 -- how often s stands in a list of reads
 abbrev pub count : ℕ → List ℕ → ℕ
 count s [] = 0
 count s (r ∷ rs) = bitOf (eqb s r) + count s rs
 
--- the reads rs with those by one more gate's pins, where that gate has readers
-abbrev pub ifRead : ℕ → List ℕ → List ℕ → List ℕ
-ifRead zero pins rs = rs
-ifRead (suc readers) pins rs = pins ++ rs
+-- a gate with so many live readers is live if there is one
+abbrev pub isLive : ℕ → Bool
+isLive zero = false
+isLive (suc readers) = true
 
+-- the reads rs, with those by the pins of the gate at source s if rs has a read of it
 abbrev pub withGate : ℕ → List ℕ → List ℕ → List ℕ
-withGate s pins rs = ifRead (count s rs) pins rs
+withGate s pins rs = cond (isLive (count s rs)) (pins ++ rs) rs
 
 -- the reads by outputs and by the live ones of these gates, the first of which is source s: later gates first, for a gate's readers come after it
 abbrev pub liveReadsFrom : List ℕ → ℕ → List Gate → List ℕ
@@ -28,14 +30,14 @@ liveReadsFrom outputs s (g ∷ gs) = withGate s (g .pins) (liveReadsFrom outputs
 unfoldable pub liveReads : Netlist → List ℕ
 liveReads net = liveReadsFrom (net .outputs) (net .inputs) (net .gates)
 
--- the live readers of a source; a gate is live if it has one
+-- the live readers of a source
 unfoldable pub readers : Netlist → ℕ → ℕ
 readers net s = count s (liveReads net)
 
 -- how many of the k sources from s on stand in rs
 abbrev pub liveAmong : List ℕ → ℕ → ℕ → ℕ
 liveAmong rs s zero = 0
-liveAmong rs s (suc k) = bitOf (ltb 0 (count s rs)) + liveAmong rs (suc s) k
+liveAmong rs s (suc k) = bitOf (isLive (count s rs)) + liveAmong rs (suc s) k
 
 -- L of document 01: the number of live gates
 unfoldable pub liveGates : Netlist → ℕ
@@ -44,3 +46,13 @@ liveGates net = liveAmong (liveReads net) (net .inputs) (length (net .gates))
 -- refusal 9 does not apply: no gate has two live readers
 unfoldable pub SingleReaders : Netlist → Type 0
 SingleReaders net = (j : ℕ) → j < length (net .gates) → readers net (net .inputs + j) ≤ 1
+
+-- the document's own sentence: a gate is live if an output or a live gate reads it
+pub data Live (net : Netlist) : ℕ → Type 0 where
+  output-reads : {s : ℕ} → 0 < count s (net .outputs) → Live net s
+  gate-reads : {s : ℕ} (j : ℕ) → j < length (net .gates) → Live net (net .inputs + j) → 0 < count s (gateAt net j .pins) → Live net s
+
+-- and its other: a gate depends on the inputs and gates that it reads, and on all that those depend on
+pub data Depends (net : Netlist) : ℕ → ℕ → Type 0 where
+  reads : {t : ℕ} (j : ℕ) → j < length (net .gates) → 0 < count t (gateAt net j .pins) → Depends net (net .inputs + j) t
+  reads-further : {t : ℕ} (j r : ℕ) → j < length (net .gates) → 0 < count r (gateAt net j .pins) → Depends net r t → Depends net (net .inputs + j) t
