@@ -30,6 +30,10 @@ map-unread e p b (r ∷ ps) none =
     (upd-other e p r b (λ q. let z : count p (p ∷ ps) ≡ 0 = subst (λ (k : ℕ). count p (k ∷ ps) ≡ 0) q none in omega (arith, count-self p ps)))
     (map-unread e p b ps (omega arith))
 
+-- no source that may be wrong, with weight w₁, stands twice in rs
+abbrev pub Once : (ℕ → ℕ) → List ℕ → Type 0
+Once w₁ rs = (p : ℕ) → 0 < w₁ p → count p rs ≤ 1
+
 module _ (w₀ w₁ : ℕ → ℕ) where
   -- the fold of a function of the pins' errors over the pins' bits, pin 0 first
   abbrev pub foldBits : List ℕ → (List Bool → ℕ) → ℕ
@@ -90,12 +94,8 @@ module _ (w₀ w₁ : ℕ → ℕ) where
               ap (λ (x : ℕ). x * mix w₀ w₁ s (F false)) (sums p),
             )
 
-    -- no source that can be wrong stands twice in rs
-    abbrev pub Once : List ℕ → Type 0
-    Once rs = (p : ℕ) → 0 < w₁ p → count p rs ≤ 1
-
     pub fold-law : (s : ℕ) (rs : List ℕ) (Φ : (ℕ → Bool) → ℕ) → ReadsOnly rs Φ
-        → (ps : List ℕ) → Below s ps → Once (ps ++ rs) → (T : List Bool → ℕ)
+        → (ps : List ℕ) → Below s ps → Once w₁ (ps ++ rs) → (T : List Bool → ℕ)
         → mass ^ length ps * mix w₀ w₁ s (λ e. T (map e ps) * Φ e) ≡ foldBits ps T * mix w₀ w₁ s Φ
     fold-law s rs Φ only [] below once T =
         ap₂ _*_ (pow-zero mass) (mix-same w₀ w₁ s _ _ (λ e. omega arith) ∙ mix-linear w₀ w₁ s (T []) 0 Φ Φ) ∙ omega arith
@@ -103,7 +103,7 @@ module _ (w₀ w₁ : ℕ → ℕ) where
         let M : ((ℕ → Bool) → ℕ) → ℕ = mix w₀ w₁ s in
         let T′ : List Bool → ℕ = λ bs. w₀ p * T (false ∷ bs) + w₁ p * T (true ∷ bs) in
         let F : Bool → (ℕ → Bool) → ℕ = λ b e. T (b ∷ map e ps) * Φ e in
-        let tail : Once (ps ++ rs) = λ r h. omega (arith, once r h) in
+        let tail : Once w₁ (ps ++ rs) = λ r h. omega (arith, once r h) in
         let step : mass * M (λ e. F (e p) e) ≡ w₀ p * M (F false) + w₁ p * M (F true) = given-bit s p (below 0 (omega arith)) F (alone p ps once) in
         let join : w₀ p * M (F false) + w₁ p * M (F true) ≡ M (λ e. T′ (map e ps) * Φ e)
         = sym (mix-linear w₀ w₁ s (w₀ p) (w₁ p) (F false) (F true)) ∙ mix-same w₀ w₁ s _ _ (λ e. omega arith) in
@@ -114,7 +114,7 @@ module _ (w₀ w₁ : ℕ → ℕ) where
           ap (λ (z : ℕ). mass ^ length ps * z) (step ∙ join),
         )
       where
-        alone : (p : ℕ) (ps : List ℕ) → Once (p ∷ ps ++ rs)
+        alone : (p : ℕ) (ps : List ℕ) → Once w₁ (p ∷ ps ++ rs)
             → (w₁ p ≡ 0) ⊎ ((b c : Bool) (e : ℕ → Bool) → T (b ∷ map (upd e p c) ps) * Φ (upd e p c) ≡ T (b ∷ map e ps) * Φ e)
         alone p ps once = ⊎-elim inl (λ w. inr (free (once p w))) (eq-zero-or-pos (w₁ p))
           where

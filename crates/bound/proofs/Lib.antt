@@ -4,5 +4,7 @@ pub mod Bits
 pub mod Replace
 pub mod Rounded
 pub mod Local
+pub mod Charge
 pub mod Weights
 pub mod Literal
+pub mod Bound

@@ -57,10 +57,10 @@ module _ (u d : ℕ) (posu : 0 < u) (posd : 0 < d) (fs : List ℕ) (small : (s :
   f s = getD fs s 0
 
   abbrev r : ℕ → ℕ
-  r = right-weight u d posu posd f small
+  r = right-weight u d f
 
   abbrev w : ℕ → ℕ
-  w = wrong-weight u d posu posd f small
+  w = wrong-weight u d f
 
   -- a fold that starts at exact values
   start-near : (ps : List ℕ) (W X : List Bool → ℕ) → ((bs : List Bool) → W bs ≡ u * X bs)
@@ -70,7 +70,7 @@ module _ (u d : ℕ) (posu : 0 < u) (posd : 0 < d) (fs : List ℕ) (small : (s :
       (omega arith)
       (ap (λ (z : ℕ). 2 * (foldOver u (map f ps) W * z)) (mul-one ((u * d) ^ length ps)))
       refl
-      (fold-near u d posu posd f small mayFail never ps 0 1 W X (λ bs. exactly u (W bs) (X bs) (e bs)))
+      (fold-near u d posu f small mayFail never ps 0 1 W X (λ bs. exactly u (W bs) (X bs) (e bs)))
 
   -- one half unit for each output that may fail
   pub outputs-near : (os : List ℕ)
@@ -106,7 +106,7 @@ module _ (u d : ℕ) (posu : 0 < u) (posd : 0 < d) (fs : List ℕ) (small : (s :
       let m-most : m ≤ u = fold-at-most u u posu (map f ps) (maps ps) W (difference-at-most u (g .table) (pinValues vs ps)) in
       let p-most : p ≤ u = units-at-most u d (g .chance) posd hc in
       let whole : foldBits r w ps moved + foldBits r w ps still ≡ x
-      = sym (bits-add r w ps moved still) ∙ ap (foldBits r w ps) (fun-ext (λ bs. one (unmoved vs g bs))) ∙ bits-const r w (u * d) (weights-sum u d posu posd f small) ps 1 ∙ mul-one x in
+      = sym (bits-add r w ps moved still) ∙ ap (foldBits r w ps) (fun-ext (λ bs. one (unmoved vs g bs))) ∙ bits-const r w (u * d) (weights-sum u d f small) ps 1 ∙ mul-one x in
       let parts : foldBits r w ps (bad u d vs g) ≡ u * (d - g .chance) * foldBits r w ps moved + u * g .chance * foldBits r w ps still
       = ap (foldBits r w ps) (fun-ext (λ bs. split (unmoved vs g bs))) ∙ bits-linear r w ps (u * (d - g .chance)) (u * g .chance) moved still in
       near-at

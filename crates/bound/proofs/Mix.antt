@@ -98,3 +98,19 @@ module _ (w₀ w₁ : ℕ → ℕ) where
         (λ q. subst (λ (t : ℕ). Given (suc s) t F) (sym q) (given-last s F))
         (λ l. given-earlier s p l (mix-given s p l) F)
         (eq-or-lt-of-le (le-of-suc-le-suc h))
+
+    -- sources that are never wrong
+    pub mix-sure : (s : ℕ) → ((t : ℕ) → t < s → w₁ t ≡ 0) → (F : (ℕ → Bool) → ℕ) → mix s F ≡ mass ^ s * F (λ t. false)
+    mix-sure zero sure F = sym (ap (λ (z : ℕ). z * F (λ t. false)) (pow-zero mass) ∙ one-mul (F (λ t. false)))
+    mix-sure (suc s) sure F =
+        let none : w₁ s ≡ 0 = sure s (omega arith) in
+        let right : mix s (λ e. F (upd e s false)) ≡ mass ^ s * F (λ t. false)
+        = mix-sure s (λ t l. sure t (omega arith)) (λ e. F (upd e s false)) ∙ ap (λ (e : ℕ → Bool). mass ^ s * F e) (fun-ext (λ t. both (eqb t s))) in
+        let full : w₀ s ≡ mass = omega (arith, sums s) in
+        ap₂ (λ (a b : ℕ). a * mix s (λ e. F (upd e s false)) + b * mix s (λ e. F (upd e s true))) full none
+        ∙ ap (λ (z : ℕ). mass * z + 0 * mix s (λ e. F (upd e s true))) right
+        ∙ omega (arith, ap (λ (z : ℕ). z * F (λ t. false)) (pow-succ' mass s))
+      where
+        both : (c : Bool) → cond c false false ≡ false
+        both true = refl
+        both false = refl

@@ -26,6 +26,9 @@ near-cancel k e a b pos n =
 pub near-at : {e e′ a a′ b b′ : ℕ} → e ≡ e′ → a ≡ a′ → b ≡ b′ → Near e a b → Near e′ a′ b′
 near-at p q r n = omega arith
 
+pub near-weaken : {e e′ a b : ℕ} → e ≤ e′ → Near e a b → Near e′ a b
+near-weaken l n = omega arith
+
 -- the weight t moves from one value to the other
 moved : (y₀ x₁ t e a b m : ℕ) → t ≤ e → a ≤ m → b ≤ m → Near (e * m) ((y₀ + t) * a + x₁ * b) (y₀ * a + (x₁ + t) * b)
 moved y₀ x₁ t e a b m h ha hb = omega (arith, mul-le-mul h ha, mul-le-mul h hb)

@@ -31,6 +31,14 @@ abbrev pub charges : List ℕ → (Gate → ℕ) → ℕ → List Gate → ℕ
 charges outputs charge s [] = 0
 charges outputs charge s (g ∷ gs) = ifLive (count s (liveReadsFrom outputs (suc s) gs)) (charge g) + charges outputs charge (suc s) gs
 
+-- a gate at source s by itself: with independent pins it is wrong with weight bad, nearly the weight of its bit; `charge` in half units, u units in one
+abbrev pub Local : ℕ → ℕ → (ℕ → ℕ) → (ℕ → ℕ) → (Gate → List Bool → ℕ) → (Gate → ℕ) → ℕ → Gate → Type 0
+Local u mass w₀ w₁ bad charge s g =
+    Near
+    (charge g * (mass ^ length (g .pins) * mass))
+    (2 * (u * (mass ^ length (g .pins) * w₁ s)))
+    (2 * (u * foldBits w₀ w₁ (g .pins) (bad g)))
+
 module _ (outputs : List ℕ) (allRight : List Bool → ℕ) (ok bad : Gate → List Bool → ℕ) where
   -- the sum over the flips of these gates, from the errors e of the sources before them
   abbrev pub sumFrom : ℕ → List Gate → (ℕ → Bool) → ℕ
@@ -101,15 +109,7 @@ module _ (outputs : List ℕ) (allRight : List Bool → ℕ) (ok bad : Gate → 
           omega (arith, ap (λ (z : ℕ). z * mix w₀ w₁ s Z) (sums s))
 
       module _ (pos : 0 < mass) (u : ℕ) (one : (bs : List Bool) → allRight bs ≤ 1) (charge : Gate → ℕ) where
-        -- a gate by itself: with independent pins it is wrong with nearly the weight of its bit
-        abbrev pub Local : ℕ → Gate → Type 0
-        Local s g =
-            Near
-            (charge g * (mass ^ length (g .pins) * mass))
-            (2 * (u * (mass ^ length (g .pins) * w₁ s)))
-            (2 * (u * foldBits w₀ w₁ (g .pins) (bad g)))
-
-        live-step : (s : ℕ) (g : Gate) (gs : List Gate) → Below s (g .pins) → Once w₀ w₁ mass sums (g .pins ++ liveReadsFrom outputs (suc s) gs) → Local s g
+        live-step : (s : ℕ) (g : Gate) (gs : List Gate) → Below s (g .pins) → Once w₁ (g .pins ++ liveReadsFrom outputs (suc s) gs) → Local u mass w₀ w₁ bad charge s g
             → Near
             (charge g * (mass * (mass ^ s * mass ^ length gs)))
             (2 * (u * mix w₀ w₁ (suc s) (sumFrom (suc s) gs)))
@@ -153,8 +153,8 @@ module _ (outputs : List ℕ) (allRight : List Bool → ℕ) (ok bad : Gate → 
             refl
 
         -- a live gate costs its charge, a dead one nothing
-        step : (s : ℕ) (g : Gate) (gs : List Gate) (end : ℕ) → s + suc (length gs) ≡ end → Below s (g .pins) → Local s g
-            → (c : ℕ) → count s (liveReadsFrom outputs (suc s) gs) ≡ c → Once w₀ w₁ mass sums (cond (isLive c) (g .pins ++ liveReadsFrom outputs (suc s) gs) (liveReadsFrom outputs (suc s) gs))
+        step : (s : ℕ) (g : Gate) (gs : List Gate) (end : ℕ) → s + suc (length gs) ≡ end → Below s (g .pins) → Local u mass w₀ w₁ bad charge s g
+            → (c : ℕ) → count s (liveReadsFrom outputs (suc s) gs) ≡ c → Once w₁ (cond (isLive c) (g .pins ++ liveReadsFrom outputs (suc s) gs) (liveReadsFrom outputs (suc s) gs))
             → Near
             (ifLive c (charge g) * mass ^ end)
             (2 * (u * mix w₀ w₁ (suc s) (sumFrom (suc s) gs)))
@@ -167,13 +167,13 @@ module _ (outputs : List ℕ) (allRight : List Bool → ℕ) (ok bad : Gate → 
             = omega (arith, pow-add mass s (suc (length gs)), ap (λ (k : ℕ). mass ^ k) e, ap (λ (z : ℕ). mass ^ s * z) (pow-succ' mass (length gs))) in
             near-at (ap (λ (z : ℕ). charge g * z) full) refl refl (live-step s g gs below once near)
 
-        later-once : (c : ℕ) (ps rs : List ℕ) → Once w₀ w₁ mass sums (cond (isLive c) (ps ++ rs) rs) → Once w₀ w₁ mass sums rs
+        later-once : (c : ℕ) (ps rs : List ℕ) → Once w₁ (cond (isLive c) (ps ++ rs) rs) → Once w₁ rs
         later-once zero ps rs once p h = once p h
         later-once (suc c) ps rs once p h = omega (arith, once p h, count-append p ps rs)
 
         -- all gates replaced, the first first
         pub replace-all : (s : ℕ) (gs : List Gate) (end : ℕ) → s + length gs ≡ end → AllFrom pinsBelow s gs
-            → AllFrom Local s gs → Once w₀ w₁ mass sums (liveReadsFrom outputs s gs)
+            → AllFrom (Local u mass w₀ w₁ bad charge) s gs → Once w₁ (liveReadsFrom outputs s gs)
             → Near
             (charges outputs charge s gs * mass ^ end)
             (2 * (u * mix w₀ w₁ end (λ e. allRight (map e outputs))))
@@ -184,7 +184,7 @@ module _ (outputs : List ℕ) (allRight : List Bool → ℕ) (ok bad : Gate → 
             omega (arith, ap (λ (z : ℕ). u * z) same)
         replace-all s (g ∷ gs) end e below near once =
             let c = count s (liveReadsFrom outputs (suc s) gs) in
-            let first = step s g gs end e (all-head pinsBelow s g gs below) (all-head Local s g gs near) c refl once in
+            let first = step s g gs end e (all-head pinsBelow s g gs below) (all-head (Local u mass w₀ w₁ bad charge) s g gs near) c refl once in
             let others =
             replace-all
             (suc s)
@@ -192,12 +192,12 @@ module _ (outputs : List ℕ) (allRight : List Bool → ℕ) (ok bad : Gate → 
             end
             (omega arith)
             (all-tail pinsBelow s g gs below)
-            (all-tail Local s g gs near)
+            (all-tail (Local u mass w₀ w₁ bad charge) s g gs near)
             (later-once c (g .pins) (liveReadsFrom outputs (suc s) gs) once) in
             near-at (omega arith) refl refl (near-trans others first)
 
         -- the outputs are folded like a gate's pins
-        pub replace-outputs : (end out rel : ℕ) → Below end outputs → Once w₀ w₁ mass sums outputs
+        pub replace-outputs : (end out rel : ℕ) → Below end outputs → Once w₁ outputs
             → Near (out * mass ^ length outputs) (2 * (rel * mass ^ length outputs)) (2 * (u * foldBits w₀ w₁ outputs allRight))
             → Near (out * mass ^ end) (2 * (rel * mass ^ end)) (2 * (u * mix w₀ w₁ end (λ e. allRight (map e outputs))))
         replace-outputs end out rel below once near =
