@@ -8,3 +8,4 @@ pub mod Charge
 pub mod Weights
 pub mod Literal
 pub mod Bound
+pub mod Average

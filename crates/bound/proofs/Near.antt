@@ -13,6 +13,9 @@ near-sym n = record { up = n .down; down = n .up }
 pub near-trans : {e e′ a b c : ℕ} → Near e a b → Near e′ b c → Near (e + e′) a c
 near-trans m n = omega arith
 
+pub near-add : {e e′ a a′ b b′ : ℕ} → Near e a b → Near e′ a′ b′ → Near (e + e′) (a + a′) (b + b′)
+near-add m n = omega arith
+
 pub near-scale : (k : ℕ) {e a b : ℕ} → Near e a b → Near (k * e) (k * a) (k * b)
 near-scale k n =
     record { up = omega (arith, mul-le-mul-left k (n .up)); down = omega (arith, mul-le-mul-left k (n .down)) }

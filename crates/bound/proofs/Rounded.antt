@@ -11,11 +11,8 @@ use Rattle.rounding.specs.Rounding.{blend, toUnits}
 use Rattle.rounding.proofs.Laws.{Near, near, blend-none}
 use Rattle.figure.specs.Figure.{bitOf, gateStep}
 use Rattle.figure.proofs.Fold.{foldOver}
-use Rattle.bound.proofs.Near.{near-at, near-trans, near-scale, replace}
+use Rattle.bound.proofs.Near.{near-at, near-trans, near-add, near-scale, replace}
 use Rattle.bound.proofs.Bits.{foldBits, bits-linear, bits-const}
-
-near-add : {e e′ a a′ b b′ : ℕ} → Near e a b → Near e′ a′ b′ → Near (e + e′) (a + a′) (b + b′)
-near-add m n = omega arith
 
 pub blend-near : (u r w f : ℕ) → 0 < u → Near u (2 * (blend u r w f * u)) (2 * (r * (u - f) + w * f))
 unfolding blend
