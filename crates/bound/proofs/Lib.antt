@@ -9,3 +9,4 @@ pub mod Weights
 pub mod Literal
 pub mod Bound
 pub mod Average
+pub mod Examples

@@ -4,3 +4,4 @@ pub mod Grow
 pub mod Values
 pub mod Failures
 pub mod Live
+pub mod Sheets
