@@ -1,12 +1,10 @@
 -- The average's bound: the mean of the patterns' bounds, and one rounding more. Assumes nothing.
-use Prim.Native.Nat.{ℕ, zero, suc, _+_, _*_, _^_, _≤_, _<_}
-use mathlib.Core.List.{List}
-use mathlib.Core.Path.{_≡_, refl, ap}
+use Prim.Native.Nat.{ℕ, zero, suc, _+_, _*_, _^_}
+use mathlib.Core.Path.{_≡_, refl}
 use native.Mathlib.Omega.{arith}
-use lib.ListN.{length, getD}
+use lib.ListN.{getD}
 use Rattle.rounding.specs.Rounding.{roundDiv}
 use Rattle.rounding.proofs.Laws.{Near, near}
-use Rattle.netlist.specs.Netlist.{Netlist}
 use Rattle.netlist.specs.Exact.{exactSum}
 use Rattle.netlist.specs.Figures.{reliability}
 use Rattle.netlist.specs.Live.{liveGates}

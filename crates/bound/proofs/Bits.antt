@@ -1,6 +1,6 @@
 -- The fold law: a factor that reads some independent bits comes out of a sum over bits as its fold, where what is left reads none of them.
 -- It serves gates and outputs alike. Assumes nothing.
-use Prim.Native.Nat.{ℕ, zero, suc, _+_, _*_, _^_, _≤_, _<_}
+use Prim.Native.Nat.{ℕ, _+_, _*_, _^_, _≤_, _<_}
 use mathlib.Core.Bool.{Bool, true, false}
 use mathlib.Core.List.{List, [], _∷_, _++_, map}
 use mathlib.Core.Path.{_≡_, refl, sym, ap, ap₂, subst, fun-ext, _∙_}
@@ -8,10 +8,9 @@ use mathlib.Core.Logic.{_⊎_, inl, inr, ⊎-elim}
 use native.Mathlib.Nat.{pow-zero, pow-succ', one-mul, eq-zero-or-pos}
 use native.Mathlib.Omega.{arith}
 use lib.ListN.{length}
-use lib.Dec.{eqb}
 use Rattle.netlist.specs.WellFormed.{Below}
 use Rattle.netlist.specs.Live.{count}
-use Rattle.netlist.proofs.Count.{count-self, count-other, count-append, below-tail}
+use Rattle.netlist.proofs.Count.{count-self, count-append, below-tail}
 use Rattle.bound.proofs.Mix.{upd, upd-same, upd-other, mix, mix-same, mix-linear, mix-given}
 
 -- F depends on no other bits than those of the sources in rs

@@ -1,10 +1,10 @@
 -- The bound for every size: the reliability in units is within the charges of u times the exact sum. Assumes nothing.
 use Prim.Native.Nat.{ℕ, zero, suc, _+_, _-_, _*_, _^_, _≤_, _<_}
-use mathlib.Core.Bool.{Bool, true, false}
-use mathlib.Core.List.{List, [], _∷_, _++_, map}
-use mathlib.Core.Path.{_≡_, refl, sym, ap, ap₂, subst, fun-ext, _∙_}
+use mathlib.Core.Bool.{Bool, false}
+use mathlib.Core.List.{map}
+use mathlib.Core.Path.{_≡_, refl, sym, ap, ap₂, _∙_}
 use mathlib.Core.Logic.{by-cases}
-use native.Mathlib.Nat.{pow-zero, pow-succ', one-mul, mul-pos, mul-zero, one-le-pow, mul-le-mul-right}
+use native.Mathlib.Nat.{pow-zero, pow-succ', mul-pos, mul-zero, one-le-pow, mul-le-mul-right}
 use native.Mathlib.Decide.{decLe}
 use native.Mathlib.Omega.{arith}
 use lib.ListN.{length, getD, length-map, List·getD-eq-default}
@@ -13,26 +13,26 @@ use lib.Pow.{pow-add}
 use borrow.Author.Tests.{leb-false}
 use Rattle.rounding.specs.Rounding.{toUnits}
 use Rattle.rounding.proofs.Laws.{Near}
-use Rattle.figure.specs.Figure.{answer, difference, gateStep, gateFailure}
+use Rattle.figure.specs.Figure.{difference, gateStep, gateFailure}
 use Rattle.figure.proofs.Fold.{foldOver}
-use Rattle.netlist.specs.Netlist.{Gate, Netlist, noGate, gateAt, inputValues, pinValues, rightValues}
-use Rattle.netlist.specs.WellFormed.{Below, WellFormed}
+use Rattle.netlist.specs.Netlist.{Gate, Netlist, gateAt, inputValues, pinValues, rightValues}
+use Rattle.netlist.specs.WellFormed.{WellFormed}
 use Rattle.netlist.specs.Exact.{exactSum}
 use Rattle.netlist.specs.Figures.{pinFailures, failures, reliability}
 use Rattle.netlist.specs.Live.{count, liveReadsFrom, liveReads, readers, liveGates, SingleReaders}
 use Rattle.netlist.proofs.Values.{inputs-length, input-value, right-input, right-gate}
 use Rattle.netlist.proofs.Failures.{failures-length, failure-input, failure-gate, failures-at-most, start-fold}
-use Rattle.netlist.proofs.Each.{AllFrom, pinsBelow}
+use Rattle.netlist.proofs.Each.{AllFrom}
 use Rattle.netlist.proofs.Live.{count-outputs}
 use Rattle.bound.proofs.Near.{near-at, near-trans, near-cancel, near-weaken}
-use Rattle.bound.proofs.Mix.{upd, mix, mix-sure}
+use Rattle.bound.proofs.Mix.{mix, mix-sure}
 use Rattle.bound.proofs.Bits.{foldBits, Once}
 use Rattle.bound.proofs.Replace.{charges, sumFrom, Local, replace-all, replace-outputs}
 use Rattle.bound.proofs.Rounded.{failing, right-weight, wrong-weight, weights-sum}
 use Rattle.bound.proofs.Local.{right-at-most, outputs-near, gate-near}
 use Rattle.bound.proofs.Charge.{charge-total, live-total, one-each}
 use Rattle.bound.proofs.Weights.{ifRight, ok, bad, ok-bad}
-use Rattle.bound.proofs.Literal.{flipSum, literal}
+use Rattle.bound.proofs.Literal.{literal}
 
 mul-pow : (a b k : ℕ) → (a * b) ^ k ≡ a ^ k * b ^ k
 mul-pow a b zero = omega (arith, pow-zero (a * b), pow-zero a, pow-zero b, ap₂ _*_ (pow-zero a) (pow-zero b))

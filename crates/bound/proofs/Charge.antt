@@ -1,6 +1,6 @@
 -- The half units add up to three for each live gate: two of its own and one where it is read, for each live gate is read once. Assumes nothing.
 use Prim.Native.Nat.{ℕ, zero, suc, _+_, _*_, _≤_, _<_}
-use mathlib.Core.Bool.{Bool, true, false, cond}
+use mathlib.Core.Bool.{Bool, cond}
 use mathlib.Core.List.{List, [], _∷_, _++_}
 use mathlib.Core.Path.{_≡_, refl, sym, ap, ap₂, _∙_}
 use mathlib.Core.Logic.{by-cases, ⊎-elim}
@@ -16,7 +16,7 @@ use Rattle.netlist.specs.WellFormed.{Below}
 use Rattle.netlist.specs.Live.{count, isLive, withGate, liveReadsFrom, liveAmong}
 use Rattle.netlist.proofs.Count.{below-tail}
 use Rattle.netlist.proofs.Each.{AllFrom, all-head, all-tail, pinsBelow}
-use Rattle.netlist.proofs.Live.{ifLive, count-later}
+use Rattle.netlist.proofs.Live.{ifLive, count-later, among-step}
 use Rattle.bound.proofs.Rounded.{failing}
 use Rattle.bound.proofs.Replace.{charges}
 
@@ -49,23 +49,14 @@ charge-total m outputs s (g ∷ gs) =
     twice zero k = refl
     twice (suc c) k = refl
 
-among-same : (xs ys : List ℕ) (k s : ℕ) → ((t : ℕ) → s ≤ t → count t xs ≡ count t ys) → liveAmong xs s k ≡ liveAmong ys s k
-among-same xs ys zero s h = refl
-among-same xs ys (suc k) s h =
-    ap₂ _+_ (ap (λ (c : ℕ). bitOf (isLive c)) (h s (le-refl s))) (among-same xs ys k (suc s) (λ t l. h t (omega arith)))
-
 -- a charge of one for each live gate is the number of live gates
 pub live-total : (outputs : List ℕ) (s : ℕ) (gs : List Gate) → AllFrom pinsBelow s gs
     → charges outputs (λ g. 1) s gs ≡ liveAmong (liveReadsFrom outputs s gs) s (length gs)
 live-total outputs s [] below = refl
 live-total outputs s (g ∷ gs) below =
     let later = liveReadsFrom outputs (suc s) gs in
-    let same : (t : ℕ) → s ≤ t → count t later ≡ count t (withGate s (g .pins) later)
-    = λ t l. sym (count-later t s (g .pins) later (all-head pinsBelow s g gs below) l) in
-    ap₂
-    _+_
-    (ap (λ (c : ℕ). bitOf (isLive c)) (same s (le-refl s)))
-    (live-total outputs (suc s) gs (all-tail pinsBelow s g gs below) ∙ among-same later _ (length gs) (suc s) (λ t l. same t (omega arith)))
+    ap (λ (k : ℕ). bitOf (isLive (count s later)) + k) (live-total outputs (suc s) gs (all-tail pinsBelow s g gs below))
+    ∙ sym (among-step s (length gs) (g .pins) later (all-head pinsBelow s g gs below))
 
 failing-below : (s : ℕ) (ps : List ℕ) → Below s ps → failing (leb s) ps ≡ 0
 failing-below s [] below = refl

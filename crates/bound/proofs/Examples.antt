@@ -1,10 +1,8 @@
 -- The bound says something of a real sheet, and refusal 9 is needed for it. Assumes nothing.
-use Prim.Native.Nat.{ℕ, zero, suc, _+_, _*_, _^_, _≤_, _<_}
-use mathlib.Core.List.{List, [], _∷_}
-use mathlib.Core.Path.{_≡_, refl}
+use Prim.Native.Nat.{ℕ, zero, suc, _+_, _*_, _≤_, _<_}
 use native.Mathlib.Omega.{arith}
 use lib.ListN.{length}
-use lib.Dec.{T, leb, le→leb, lit≤, lit<}
+use lib.Dec.{le→leb, lit≤, lit<}
 use Rattle.rounding.specs.Rounding.{unitsInOne, roundDiv, blend, toUnits}
 use Rattle.rounding.proofs.Laws.{Near}
 use Rattle.figure.specs.Figure.{answer, difference, startValues, gateStep, gateFailure, outputStep}

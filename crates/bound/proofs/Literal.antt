@@ -4,13 +4,13 @@ use mathlib.Core.Bool.{Bool, true, false, cond, not, _&&_, Bool·beq}
 use mathlib.Core.List.{List, [], _∷_, _++_, map}
 use mathlib.Core.Path.{_≡_, refl, sym, ap, ap₂, subst, fun-ext, _∙_}
 use mathlib.Core.Logic.{⊎-elim}
-use native.Mathlib.Nat.{pow-zero, pow-succ', one-mul, mul-zero, eq-or-lt-of-le, le-of-suc-le-suc}
+use native.Mathlib.Nat.{pow-zero, pow-succ', mul-zero, eq-or-lt-of-le, le-of-suc-le-suc}
 use native.Mathlib.Omega.{arith}
 use lib.ListN.{length, getD, length-append, List·getD-append}
 use lib.Seq.{getD-at}
 use lib.Arith.{sub-sub-self}
 use Rattle.figure.specs.Figure.{invertIf, inverted, answer}
-use Rattle.netlist.specs.Netlist.{Gate, Netlist, noGate, pinValues, values}
+use Rattle.netlist.specs.Netlist.{Gate, pinValues, values}
 use Rattle.netlist.specs.WellFormed.{Below}
 use Rattle.netlist.specs.Exact.{sumOverFlips, weight, outputsAgree}
 use Rattle.netlist.proofs.Count.{below-tail}

@@ -1,16 +1,16 @@
 -- A netlist's gates and outputs by themselves: with independent pins a gate is wrong with nearly its rounded failure, and all outputs are right with
 -- nearly the rounded reliability. Assumes nothing.
 use Prim.Native.Nat.{ℕ, zero, suc, _+_, _-_, _*_, _^_, _≤_, _<_}
-use mathlib.Core.Bool.{Bool, true, false, cond, not, Bool·beq}
+use mathlib.Core.Bool.{Bool, true, false, cond, not}
 use mathlib.Core.List.{List, [], _∷_, map}
-use mathlib.Core.Path.{_≡_, refl, sym, ap, ap₂, subst, fun-ext, _∙_}
-use native.Mathlib.Nat.{mul-one, mul-zero, zero-add, one-mul, le-refl, sub-add-cancel}
+use mathlib.Core.Path.{_≡_, refl, sym, ap, fun-ext, _∙_}
+use native.Mathlib.Nat.{mul-one, mul-zero, le-refl}
 use native.Mathlib.Omega.{arith}
 use lib.ListN.{length, getD}
 use lib.Arith.{sub-sub-self, le-zero}
 use Rattle.rounding.specs.Rounding.{blend, toUnits}
 use Rattle.rounding.proofs.Laws.{Near, blend-at-most}
-use Rattle.figure.specs.Figure.{bitOf, answer, inverted, difference, gateStep, outputStep}
+use Rattle.figure.specs.Figure.{bitOf, difference, gateStep, outputStep}
 use Rattle.figure.proofs.Fold.{foldOver}
 use Rattle.netlist.specs.Netlist.{Gate, pinValues}
 use Rattle.netlist.specs.Figures.{reliabilityFrom}

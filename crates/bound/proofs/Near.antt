@@ -1,6 +1,6 @@
 -- Arithmetic of `Near`, and the step behind every replacement: two weighted means of the same values, whose weights are near, are near. Assumes nothing.
-use Prim.Native.Nat.{ℕ, zero, suc, _+_, _-_, _*_, _≤_, _<_}
-use mathlib.Core.Path.{_≡_, sym, ap, subst₂}
+use Prim.Native.Nat.{ℕ, _+_, _-_, _*_, _≤_, _<_}
+use mathlib.Core.Path.{_≡_, ap, subst₂}
 use mathlib.Core.Logic.{by-cases}
 use native.Mathlib.Nat.{mul-le-mul, mul-le-mul-left, le-of-mul-le-mul-left}
 use native.Mathlib.Decide.{decLe}

@@ -4,21 +4,21 @@
 use Prim.Native.Nat.{ℕ, zero, suc, _+_, _*_, _^_, _≤_, _<_}
 use mathlib.Core.Bool.{Bool, true, false, cond}
 use mathlib.Core.List.{List, [], _∷_, _++_, map, append-nil}
-use mathlib.Core.Path.{_≡_, refl, sym, ap, ap₂, subst, fun-ext, _∙_}
-use native.Mathlib.Nat.{pow-zero, pow-succ', one-mul, mul-one, zero-mul, mul-le-mul-left, mul-le-mul, add-zero, one-le-pow}
+use mathlib.Core.Path.{_≡_, refl, sym, ap, ap₂, fun-ext, _∙_}
+use native.Mathlib.Nat.{pow-zero, pow-succ', mul-one, mul-le-mul-left, add-zero, one-le-pow}
 use native.Mathlib.Omega.{arith}
-use lib.ListN.{length, getD}
+use lib.ListN.{length}
 use lib.Pow.{pow-add}
 use lib.Dec.{eqb}
 use Rattle.rounding.proofs.Laws.{Near}
 use Rattle.netlist.specs.Netlist.{Gate}
 use Rattle.netlist.specs.WellFormed.{Below}
-use Rattle.netlist.specs.Live.{count, isLive, withGate, liveReadsFrom}
+use Rattle.netlist.specs.Live.{count, isLive, liveReadsFrom}
 use Rattle.netlist.proofs.Count.{count-self, count-append}
 use Rattle.netlist.proofs.Each.{AllFrom, all-head, all-tail, pinsBelow}
 use Rattle.netlist.proofs.Live.{ifLive}
 use Rattle.bound.proofs.Near.{near-at, near-trans, near-scale, near-cancel, replace-mean}
-use Rattle.bound.proofs.Mix.{upd, upd-other, mix, mix-same, mix-linear, mix-add, mix-const, mix-at-most}
+use Rattle.bound.proofs.Mix.{upd, mix, mix-same, mix-linear, mix-add, mix-const, mix-at-most}
 use Rattle.bound.proofs.Bits.{ReadsOnly, unread, foldBits, bits-add, bits-const, Once, fold-law}
 
 map-agree : (e e′ : ℕ → Bool) (ps : List ℕ) → ((t : ℕ) → 0 < count t ps → e t ≡ e′ t) → map e ps ≡ map e′ ps

@@ -1,18 +1,18 @@
 -- What rounding costs one gate, and the outputs: half units for each pin that may fail, one for the flip's conversion and one for the gate step.
 -- Only the laws of rounding are used. Assumes nothing.
-use Prim.Native.Nat.{ℕ, zero, suc, _+_, _-_, _*_, _^_, _≤_, _<_}
-use mathlib.Core.Bool.{Bool, true, false, cond, not}
+use Prim.Native.Nat.{ℕ, suc, _+_, _-_, _*_, _^_, _≤_, _<_}
+use mathlib.Core.Bool.{Bool, true, false}
 use mathlib.Core.List.{List, [], _∷_, map}
-use mathlib.Core.Path.{_≡_, refl, sym, ap, ap₂, subst, fun-ext, _∙_}
-use native.Mathlib.Nat.{pow-zero, pow-succ', one-mul, zero-mul, mul-zero, add-zero, sub-zero, mul-comm, sub-add-cancel}
+use mathlib.Core.Path.{_≡_, refl, sym, ap, ap₂, _∙_}
+use native.Mathlib.Nat.{pow-zero, pow-succ', mul-zero, add-zero, sub-zero, sub-add-cancel}
 use native.Mathlib.Omega.{arith}
 use lib.ListN.{length}
 use Rattle.rounding.specs.Rounding.{blend, toUnits}
 use Rattle.rounding.proofs.Laws.{Near, near, blend-none}
-use Rattle.figure.specs.Figure.{bitOf, gateStep}
+use Rattle.figure.specs.Figure.{bitOf}
 use Rattle.figure.proofs.Fold.{foldOver}
 use Rattle.bound.proofs.Near.{near-at, near-trans, near-add, near-scale, replace}
-use Rattle.bound.proofs.Bits.{foldBits, bits-linear, bits-const}
+use Rattle.bound.proofs.Bits.{foldBits}
 
 pub blend-near : (u r w f : ℕ) → 0 < u → Near u (2 * (blend u r w f * u)) (2 * (r * (u - f) + w * f))
 unfolding blend

@@ -1,9 +1,8 @@
 -- What a gate and the outputs of a netlist do with errors: the weights that the error argument is used at. Assumes nothing.
-use Prim.Native.Nat.{ℕ, zero, suc, _+_, _-_, _*_, _≤_}
-use mathlib.Core.Bool.{Bool, true, false, cond, not, Bool·beq}
+use Prim.Native.Nat.{ℕ, _+_, _-_, _*_}
+use mathlib.Core.Bool.{Bool, true, false, cond, Bool·beq}
 use mathlib.Core.List.{List, [], _∷_}
-use mathlib.Core.Path.{_≡_, refl, ap}
-use native.Mathlib.Nat.{sub-add-cancel}
+use mathlib.Core.Path.{_≡_, ap}
 use native.Mathlib.Omega.{arith}
 use Rattle.figure.specs.Figure.{answer, inverted}
 use Rattle.netlist.specs.Netlist.{Gate, pinValues}

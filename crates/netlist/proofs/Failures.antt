@@ -4,7 +4,7 @@ use Prim.Native.Nat.{ℕ, zero, suc, _+_, _-_, _*_, _≤_, _<_}
 use mathlib.Core.Bool.{Bool, true, false, Bool·beq, cond}
 use mathlib.Core.List.{List, [], _∷_, _++_, map}
 use mathlib.Core.Path.{_≡_, refl, sym, ap, subst, _∙_}
-use native.Mathlib.Nat.{le-refl, mul-le-mul-right, mul-comm}
+use native.Mathlib.Nat.{le-refl, mul-le-mul-right}
 use native.Mathlib.Omega.{arith}
 use lib.ListN.{length, getD, replicate, length-replicate, getD-replicate, length-map}
 use Rattle.rounding.specs.Rounding.{blend, toUnits}
@@ -13,8 +13,8 @@ use Rattle.figure.specs.Figure.{difference, answer, inverted, errorPatterns, st
 use Rattle.figure.proofs.Fold.{foldOver, fold-over}
 use Rattle.netlist.specs.Netlist.{Gate, Netlist, noGate, gateAt, pinValues, rightValues}
 use Rattle.netlist.specs.Figures.{pinFailures, failuresFrom, failures}
-use Rattle.netlist.specs.WellFormed.{Below, WellFormed}
-use Rattle.netlist.proofs.Grow.{grow, Agree, Looks, Steps, grow-length, grow-keeps, grow-steps, grow-unique, grow-all}
+use Rattle.netlist.specs.WellFormed.{WellFormed}
+use Rattle.netlist.proofs.Grow.{grow, Looks, Steps, grow-length, grow-keeps, grow-steps, grow-unique, grow-all}
 use Rattle.netlist.proofs.Values.{pins-agree}
 
 -- a gate's failure from a list of failures; vs are the right values

@@ -1,13 +1,13 @@
 -- A list that grows at its end, one entry for each gate, each worked out from the entries before it: the entry of gate j is its step on the WHOLE list,
 -- and no other list has that. Right values and failures are two such lists. Assumes nothing.
-use Prim.Native.Nat.{ℕ, zero, suc, _+_, _≤_, _<_}
+use Prim.Native.Nat.{ℕ, zero, suc, _+_, _<_}
 use mathlib.Core.List.{List, [], _∷_, _++_}
 use mathlib.Core.Path.{_≡_, refl, sym, ap, subst, _∙_}
 use mathlib.Core.Logic.{⊎-elim}
 use native.Mathlib.Nat.{add-zero, eq-or-lt-of-le, le-of-suc-le-suc}
 use native.Mathlib.Omega.{arith}
 use lib.ListN.{length, getD, length-append, List·getD-append}
-use lib.Seq.{getD-append-seam, getD-at, ext-getD}
+use lib.Seq.{getD-at, ext-getD}
 
 module _ {A B : Type 0} (none : A) (z : B) (step : A → List B → B) where
   abbrev pub grow : List A → List B → List B

@@ -5,3 +5,4 @@ pub mod Values
 pub mod Failures
 pub mod Live
 pub mod Sheets
+pub mod Shared

@@ -1,16 +1,18 @@
 -- The counts of live reads meet document 01's sentences: a gate is live if an output or a live gate reads it; readers are counted by live gate's pin and
 -- by output. Assumes nothing.
 use Prim.Native.Nat.{ℕ, zero, suc, _+_, _≤_, _<_}
-use mathlib.Core.Bool.{Bool, true, false, cond}
+use mathlib.Core.Bool.{cond}
 use mathlib.Core.List.{List, [], _∷_, _++_}
 use mathlib.Core.Path.{_≡_, refl, sym, ap, ap₂, subst, _∙_}
 use mathlib.Core.Logic.{_⊎_, inl, inr, ⊎-elim}
 use native.Mathlib.Nat.{le-refl, add-zero, eq-zero-or-pos, eq-or-lt-of-le, le-of-suc-le-suc}
 use native.Mathlib.Omega.{arith}
-use lib.ListN.{length, getD}
+use lib.ListN.{length, getD, drop}
+use lib.Seq.{drop-cons}
+use Rattle.figure.specs.Figure.{bitOf}
 use Rattle.netlist.specs.Netlist.{Gate, Netlist, noGate, gateAt}
 use Rattle.netlist.specs.WellFormed.{Below, WellFormed}
-use Rattle.netlist.specs.Live.{count, isLive, withGate, liveReadsFrom, liveReads, readers, Live, output-reads, gate-reads, Depends, reads, reads-further}
+use Rattle.netlist.specs.Live.{count, isLive, withGate, liveReadsFrom, liveReads, readers, liveAmong, Live, output-reads, gate-reads, Depends, reads, reads-further}
 use Rattle.netlist.specs.Average.{sumBelow}
 use Rattle.netlist.proofs.Each.{AllFrom, all-head, all-tail, pinsBelow}
 use Rattle.netlist.proofs.Count.{count-append, count-below, below-count}
@@ -19,7 +21,7 @@ use Rattle.netlist.proofs.Count.{count-append, count-below, below-count
 abbrev pub ifLive : ℕ → ℕ → ℕ
 ifLive r k = cond (isLive r) k 0
 
-count-with : (t s : ℕ) (ps rs : List ℕ) → count t (withGate s ps rs) ≡ ifLive (count s rs) (count t ps) + count t rs
+pub count-with : (t s : ℕ) (ps rs : List ℕ) → count t (withGate s ps rs) ≡ ifLive (count s rs) (count t ps) + count t rs
 count-with t s ps rs = go (count s rs)
   where
     go : (c : ℕ) → count t (cond (isLive c) (ps ++ rs) rs) ≡ ifLive c (count t ps) + count t rs
@@ -42,6 +44,26 @@ pub count-outputs : (t : ℕ) (outputs : List ℕ) (s : ℕ) (gs : List Gate) �
 count-outputs t outputs s [] = le-refl (count t outputs)
 count-outputs t outputs s (g ∷ gs) =
     omega (arith, count-outputs t outputs (suc s) gs, count-more t s (g .pins) (liveReadsFrom outputs (suc s) gs))
+
+-- how many are live, one gate more
+among-same : (xs ys : List ℕ) (k s : ℕ) → ((t : ℕ) → s ≤ t → count t xs ≡ count t ys) → liveAmong xs s k ≡ liveAmong ys s k
+among-same xs ys zero s h = refl
+among-same xs ys (suc k) s h =
+    ap₂ _+_ (ap (λ (c : ℕ). bitOf (isLive c)) (h s (le-refl s))) (among-same xs ys k (suc s) (λ t l. h t (omega arith)))
+
+pub among-step : (s k : ℕ) (ps rs : List ℕ) → Below s ps
+    → liveAmong (withGate s ps rs) s (suc k) ≡ bitOf (isLive (count s rs)) + liveAmong rs (suc s) k
+among-step s k ps rs below =
+    ap₂
+    _+_
+    (ap (λ (c : ℕ). bitOf (isLive c)) (count-later s s ps rs below (le-refl s)))
+    (among-same (withGate s ps rs) rs k (suc s) (λ t l. count-later t s ps rs below (omega arith)))
+
+-- the live reads by gate j and what follows it
+pub reads-from : (net : Netlist) (j : ℕ) → j < length (net .gates)
+    → liveReadsFrom (net .outputs) (net .inputs + j) (drop j (net .gates))
+    ≡ withGate (net .inputs + j) (gateAt net j .pins) (liveReadsFrom (net .outputs) (suc (net .inputs + j)) (drop (suc j) (net .gates)))
+reads-from net j l = ap (liveReadsFrom (net .outputs) (net .inputs + j)) (drop-cons (net .gates) j noGate l)
 
 pub sum-first : (k : ℕ) (F : ℕ → ℕ) → sumBelow (suc k) F ≡ F 0 + sumBelow k (λ j. F (suc j))
 sum-first zero F = omega arith

@@ -1,6 +1,6 @@
 -- The sheets with known results, by computation. Assumes nothing.
-use Prim.Native.Nat.{ℕ, _+_, _*_, _^_}
-use mathlib.Core.List.{List, [], _∷_, map}
+use Prim.Native.Nat.{_*_, _^_}
+use mathlib.Core.List.{[], _∷_, map}
 use mathlib.Core.Path.{_≡_, refl}
 use lib.ListN.{getD}
 use Rattle.rounding.specs.Rounding.{unitsInOne, roundDiv, blend, toUnits}

@@ -1,17 +1,17 @@
 -- The right values by their equations: an input's value is its bit of the pattern, a gate's is its table's answer on the values of its pins; and no other
 -- list of that length meets them. Assumes nothing.
-use Prim.Native.Nat.{ℕ, zero, suc, _+_, _*_, _/_, _^_, _≤_, _<_}
-use mathlib.Core.Bool.{Bool, true, false}
+use Prim.Native.Nat.{ℕ, zero, suc, _+_, _/_, _^_, _<_}
+use mathlib.Core.Bool.{Bool, false}
 use mathlib.Core.List.{List, [], _∷_, _++_, map}
 use mathlib.Core.Path.{_≡_, refl, sym, ap, ap₂, subst, _∙_}
-use native.Mathlib.Nat.{pow-zero, pow-succ', div-one, div-div-eq-div-mul, add-zero, zero-add}
+use native.Mathlib.Nat.{pow-succ', div-one, div-div-eq-div-mul}
 use native.Mathlib.Omega.{arith}
 use lib.ListN.{length, getD}
 use Rattle.figure.specs.Figure.{isOdd, answer}
 use Rattle.netlist.specs.Netlist.{Gate, Netlist, noGate, gateAt, inputValues, pinValues, values, rightValues}
 use Rattle.netlist.specs.WellFormed.{Below, WellFormed}
 use Rattle.netlist.proofs.Count.{below-tail}
-use Rattle.netlist.proofs.Grow.{grow, Agree, Looks, Steps, grow-length, grow-keeps, grow-steps, grow-unique}
+use Rattle.netlist.proofs.Grow.{grow, Looks, Steps, grow-length, grow-keeps, grow-steps, grow-unique}
 
 pub inputs-length : (n q : ℕ) → length (inputValues n q) ≡ n
 inputs-length zero q = refl

@@ -2,7 +2,7 @@
 use Prim.Native.Nat.{ℕ, _+_, _≤_, _<_}
 use mathlib.Core.List.{List}
 use lib.ListN.{length, getD}
-use Rattle.netlist.specs.Netlist.{Gate, Netlist, gateAt}
+use Rattle.netlist.specs.Netlist.{Netlist, gateAt}
 
 -- every entry of a list is below b
 abbrev pub Below : ℕ → List ℕ → Type 0
