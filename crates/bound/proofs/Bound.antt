@@ -31,7 +31,7 @@ use Rattle.bound.proofs.Replace.{charges, sumFrom, Local, replace-all, 
 use Rattle.bound.proofs.Rounded.{failing, right-weight, wrong-weight, weights-sum}
 use Rattle.bound.proofs.Local.{right-at-most, outputs-near, gate-near}
 use Rattle.bound.proofs.Charge.{charge-total, live-total, one-each}
-use Rattle.bound.proofs.Weights.{ifRight, ok, bad, ok-bad}
+use Rattle.bound.proofs.Weights.{ifRight, rightGiven, wrongGiven, given-sum}
 use Rattle.bound.proofs.Literal.{literal}
 
 mul-pow : (a b k : ℕ) → (a * b) ^ k ≡ a ^ k * b ^ k
@@ -64,7 +64,7 @@ module _ (u d : ℕ) (posu : 0 < u) (posd : 0 < d) (net : Netlist) (well : WellF
 
   -- the exact sum as a sum over errors
   exact-is : u ^ length (net .gates) * exactSum d net q
-      ≡ sumFrom (net .outputs) (ifRight 1) (ok u d (rightValues net q)) (bad u d (rightValues net q)) (net .inputs) (net .gates) (λ t. false)
+      ≡ sumFrom (net .outputs) (ifRight 1) (rightGiven u d (rightValues net q)) (wrongGiven u d (rightValues net q)) (net .inputs) (net .gates) (λ t. false)
   unfolding exactSum
   exact-is =
       literal
@@ -77,10 +77,10 @@ module _ (u d : ℕ) (posu : 0 < u) (posd : 0 < d) (net : Netlist) (well : WellF
       (inputValues (net .inputs) q)
       (λ t. false)
       (inputs-length (net .inputs) q)
-      (λ i l. input-value (net .inputs) q i l ∙ sym (right-input d net well q i l))
+      (λ i l. input-value (net .inputs) q i l ∙ sym (right-input net (well .pins-below) q i l))
       (well .pins-below)
       (well .chances)
-      (right-gate d net well q)
+      (right-gate net (well .pins-below) q)
       (well .outputs-below)
 
   module _ (single : SingleReaders net) where
@@ -91,10 +91,10 @@ module _ (u d : ℕ) (posu : 0 < u) (posd : 0 < d) (net : Netlist) (well : WellF
         by-cases
         (decLe (net .inputs) p)
         (λ l. by-cases (decLe (net .inputs + length (net .gates)) p) (λ k. absurd (outside k)) (λ k. inside l (omega arith)))
-        (λ l. absurd (omega (arith, ap (λ (z : ℕ). d * z) (failure-input u d net well q p (omega arith)))))
+        (λ l. absurd (omega (arith, ap (λ (z : ℕ). d * z) (failure-input u d net (well .pins-below) q p (omega arith)))))
       where
         outside : net .inputs + length (net .gates) ≤ p → ⊥
-        outside k = omega (arith, ap (λ (z : ℕ). d * z) (List·getD-eq-default (failures u d net q) 0 {n = p} (omega (arith, failures-length u d net well q))))
+        outside k = omega (arith, ap (λ (z : ℕ). d * z) (List·getD-eq-default (failures u d net q) 0 {n = p} (omega (arith, failures-length u d net (well .pins-below) q))))
 
         inside : net .inputs ≤ p → p < net .inputs + length (net .gates) → count p (liveReadsFrom (net .outputs) (net .inputs) (net .gates)) ≤ 1
         inside l k =
@@ -103,7 +103,7 @@ module _ (u d : ℕ) (posu : 0 < u) (posd : 0 < d) (net : Netlist) (well : WellF
 
     -- any charges that each gate and the outputs keep by themselves
     pub charged-bound : (charge : Gate → ℕ) (out : ℕ)
-        → AllFrom (Local u (u * d) r w (bad u d (rightValues net q)) charge) (net .inputs) (net .gates)
+        → AllFrom (Local u (u * d) r w (wrongGiven u d (rightValues net q)) charge) (net .inputs) (net .gates)
         → Near
         (out * (u * d) ^ length (net .outputs))
         (2 * (reliability u d net q * (u * d) ^ length (net .outputs)))
@@ -122,19 +122,19 @@ module _ (u d : ℕ) (posu : 0 < u) (posd : 0 < d) (net : Netlist) (well : WellF
         let M : ℕ = (u * d) ^ (n + G) in
         let K : ℕ = (u * d) ^ n * u ^ G in
         let last : Near (out * M) (2 * (rel * M)) (2 * (u * all))
-        = replace-outputs (net .outputs) (ifRight 1) (ok u d rs) (bad u d rs) (u * d) (ok-bad u d rs) r w sums pos u right-at-most charge (n + G) out rel (well .outputs-below)
+        = replace-outputs (net .outputs) (ifRight 1) (rightGiven u d rs) (wrongGiven u d rs) (u * d) (given-sum u d rs) r w sums pos u right-at-most charge (n + G) out rel (well .outputs-below)
         (λ p h. omega (arith, once p h, count-outputs p (net .outputs) n (net .gates))) outs in
-        let first : Near (c * M) (2 * (u * all)) (2 * (u * mix r w n (sumFrom (net .outputs) (ifRight 1) (ok u d rs) (bad u d rs) n (net .gates))))
-        = replace-all (net .outputs) (ifRight 1) (ok u d rs) (bad u d rs) (u * d) (ok-bad u d rs) r w sums pos u right-at-most charge n (net .gates) (n + G) refl (well .pins-below) gates once in
+        let first : Near (c * M) (2 * (u * all)) (2 * (u * mix r w n (sumFrom (net .outputs) (ifRight 1) (rightGiven u d rs) (wrongGiven u d rs) n (net .gates))))
+        = replace-all (net .outputs) (ifRight 1) (rightGiven u d rs) (wrongGiven u d rs) (u * d) (given-sum u d rs) r w sums pos u right-at-most charge n (net .gates) (n + G) refl (well .pins-below) gates once in
         let scale : M ≡ K * d ^ G
         = pow-add (u * d) n G ∙ ap (λ (z : ℕ). (u * d) ^ n * z) (mul-pow u d G) ∙ omega arith in
-        let start : mix r w n (sumFrom (net .outputs) (ifRight 1) (ok u d rs) (bad u d rs) n (net .gates)) ≡ K * exactSum d net q
-        = mix-sure r w (u * d) sums n (λ t l. ap (λ (z : ℕ). d * z) (failure-input u d net well q t l) ∙ mul-zero d) _
+        let start : mix r w n (sumFrom (net .outputs) (ifRight 1) (rightGiven u d rs) (wrongGiven u d rs) n (net .gates)) ≡ K * exactSum d net q
+        = mix-sure r w (u * d) sums n (λ t l. ap (λ (z : ℕ). d * z) (failure-input u d net (well .pins-below) q t l) ∙ mul-zero d) _
         ∙ ap (λ (z : ℕ). (u * d) ^ n * z) (sym exact-is)
         ∙ omega arith in
         let e : out * M + c * M ≡ K * ((c + out) * d ^ G) = ap (λ (z : ℕ). out * z + c * z) scale ∙ omega arith in
         let a : 2 * (rel * M) ≡ K * (2 * (rel * d ^ G)) = ap (λ (z : ℕ). 2 * (rel * z)) scale ∙ omega arith in
-        let b : 2 * (u * mix r w n (sumFrom (net .outputs) (ifRight 1) (ok u d rs) (bad u d rs) n (net .gates))) ≡ K * (2 * (u * exactSum d net q))
+        let b : 2 * (u * mix r w n (sumFrom (net .outputs) (ifRight 1) (rightGiven u d rs) (wrongGiven u d rs) n (net .gates))) ≡ K * (2 * (u * exactSum d net q))
         = ap (λ (z : ℕ). 2 * (u * z)) start ∙ omega arith in
         near-cancel
         K
@@ -149,20 +149,20 @@ module _ (u d : ℕ) (posu : 0 < u) (posd : 0 < d) (net : Netlist) (well : WellF
     isGate s = leb (net .inputs) s
 
     never : (s : ℕ) → isGate s ≡ false → f s ≡ 0
-    never s e = failure-input u d net well q s (leb-false (net .inputs) s e)
+    never s e = failure-input u d net (well .pins-below) q s (leb-false (net .inputs) s e)
 
     -- two half units for a gate, one for each pin or output that reads a gate
     abbrev charge : Gate → ℕ
     charge g = 2 + failing isGate (g .pins)
 
-    gates-near : AllFrom (Local u (u * d) r w (bad u d (rightValues net q)) charge) (net .inputs) (net .gates)
+    gates-near : AllFrom (Local u (u * d) r w (wrongGiven u d (rightValues net q)) charge) (net .inputs) (net .gates)
     unfolding gateFailure
     gates-near j l =
         let g = gateAt net j in
         let vs = rightValues net q in
         let fs = failures u d net q in
         let figure : f (net .inputs + j) ≡ gateStep u (foldOver u (map f (g .pins)) (difference u (g .table) (pinValues vs (g .pins)))) (toUnits u d (g .chance))
-        = failure-gate u d net well q j l
+        = failure-gate u d net (well .pins-below) q j l
         ∙ ap
         (λ (m : ℕ). gateStep u m (toUnits u d (g .chance)))
         (start-fold u (g .table) (pinValues vs (g .pins)) (pinFailures fs (g .pins)) (length-map (g .pins) (λ (p : ℕ). getD vs p false) ∙ sym (length-map (g .pins) f))) in

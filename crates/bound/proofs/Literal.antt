@@ -17,7 +17,7 @@ use Rattle.netlist.proofs.Count.{below-tail}
 use Rattle.netlist.proofs.Each.{AllFrom, all-head, all-tail, pinsBelow}
 use Rattle.bound.proofs.Mix.{upd, upd-same, upd-other}
 use Rattle.bound.proofs.Replace.{sumFrom}
-use Rattle.bound.proofs.Weights.{ifRight, unmoved, keepWeight, flipWeight, ok, bad}
+use Rattle.bound.proofs.Weights.{ifRight, unmoved, keepWeight, flipWeight, rightGiven, wrongGiven}
 
 pub sum-scale : (k c : ℕ) (F : List Bool → ℕ) → sumOverFlips k (λ flips. c * F flips) ≡ c * sumOverFlips k F
 sum-scale zero c F = refl
@@ -91,7 +91,7 @@ module _ (u d : ℕ) (outputs : List ℕ) (rs : List Bool) where
   flipSum gs vs = sumOverFlips (length gs) (λ flips. cond (outputsAgree outputs (values gs flips vs) rs) (weight d gs flips) 0)
 
   abbrev errorSum : ℕ → List Gate → (ℕ → Bool) → ℕ
-  errorSum = sumFrom outputs (ifRight 1) (ok u d rs) (bad u d rs)
+  errorSum = sumFrom outputs (ifRight 1) (rightGiven u d rs) (wrongGiven u d rs)
 
   flips-first : (g : Gate) (gs : List Gate) (vs : List Bool)
       → flipSum (g ∷ gs) vs

@@ -18,7 +18,7 @@ use Rattle.netlist.proofs.Failures.{units-at-most, fold-at-most, difference-at-
 use Rattle.bound.proofs.Near.{near-at}
 use Rattle.bound.proofs.Bits.{foldBits, bits-linear, bits-add, bits-const}
 use Rattle.bound.proofs.Rounded.{blend-near, units-near, failing, right-weight, wrong-weight, weights-sum, fold-near, gate-mean}
-use Rattle.bound.proofs.Weights.{ifRight, unmoved, keepWeight, flipWeight, bad}
+use Rattle.bound.proofs.Weights.{ifRight, unmoved, keepWeight, flipWeight, wrongGiven}
 
 -- nothing wrong and nothing right is nothing
 blend-zero : (u f : ℕ) → 0 < u → f ≤ u → blend u 0 0 f ≡ 0
@@ -93,7 +93,7 @@ module _ (u d : ℕ) (posu : 0 < u) (posd : 0 < d) (fs : List ℕ) (small : (s :
       * (u
       * ((u * d) ^ length (g .pins)
       * (d * gateStep u (foldOver u (map f (g .pins)) (difference u (g .table) (pinValues vs (g .pins)))) (toUnits u d (g .chance))))))
-      (2 * (u * foldBits r w (g .pins) (bad u d vs g)))
+      (2 * (u * foldBits r w (g .pins) (wrongGiven u d vs g)))
   unfolding gateStep difference
   gate-near vs g hc =
       let ps = g .pins in
@@ -107,7 +107,7 @@ module _ (u d : ℕ) (posu : 0 < u) (posd : 0 < d) (fs : List ℕ) (small : (s :
       let p-most : p ≤ u = units-at-most u d (g .chance) posd hc in
       let whole : foldBits r w ps moved + foldBits r w ps still ≡ x
       = sym (bits-add r w ps moved still) ∙ ap (foldBits r w ps) (fun-ext (λ bs. one (unmoved vs g bs))) ∙ bits-const r w (u * d) (weights-sum u d f small) ps 1 ∙ mul-one x in
-      let parts : foldBits r w ps (bad u d vs g) ≡ u * (d - g .chance) * foldBits r w ps moved + u * g .chance * foldBits r w ps still
+      let parts : foldBits r w ps (wrongGiven u d vs g) ≡ u * (d - g .chance) * foldBits r w ps moved + u * g .chance * foldBits r w ps still
       = ap (foldBits r w ps) (fun-ext (λ bs. split (unmoved vs g bs))) ∙ bits-linear r w ps (u * (d - g .chance)) (u * g .chance) moved still in
       near-at
       refl

@@ -1,6 +1,6 @@
 -- The error argument: one gate after another is replaced by an independent bit that is wrong with its rounded failure. Replacing a live gate moves
 -- the sum by that gate's own rounding at most, its charge in half units; replacing a dead gate moves nothing. No error is carried through gates.
--- What a gate does is abstract here: with the pins' errors bs it is right with weight ok g bs and wrong with weight bad g bs. Assumes nothing.
+-- What a gate does is abstract here: with the pins' errors bs it is right with weight rightGiven g bs and wrong with weight wrongGiven g bs. Assumes nothing.
 use Prim.Native.Nat.{ℕ, zero, suc, _+_, _*_, _^_, _≤_, _<_}
 use mathlib.Core.Bool.{Bool, true, false, cond}
 use mathlib.Core.List.{List, [], _∷_, _++_, map, append-nil}
@@ -31,30 +31,30 @@ abbrev pub charges : List ℕ → (Gate → ℕ) → ℕ → List Gate → ℕ
 charges outputs charge s [] = 0
 charges outputs charge s (g ∷ gs) = ifLive (count s (liveReadsFrom outputs (suc s) gs)) (charge g) + charges outputs charge (suc s) gs
 
--- a gate at source s by itself: with independent pins it is wrong with weight bad, nearly the weight of its bit; `charge` in half units, u units in one
+-- a gate at source s by itself: with independent pins it is wrong with weight wrongGiven, nearly the weight of its bit; `charge` in half units, u units in one
 abbrev pub Local : ℕ → ℕ → (ℕ → ℕ) → (ℕ → ℕ) → (Gate → List Bool → ℕ) → (Gate → ℕ) → ℕ → Gate → Type 0
-Local u mass w₀ w₁ bad charge s g =
+Local u mass w₀ w₁ wrongGiven charge s g =
     Near
     (charge g * (mass ^ length (g .pins) * mass))
     (2 * (u * (mass ^ length (g .pins) * w₁ s)))
-    (2 * (u * foldBits w₀ w₁ (g .pins) (bad g)))
+    (2 * (u * foldBits w₀ w₁ (g .pins) (wrongGiven g)))
 
-module _ (outputs : List ℕ) (allRight : List Bool → ℕ) (ok bad : Gate → List Bool → ℕ) where
+module _ (outputs : List ℕ) (allRight : List Bool → ℕ) (rightGiven wrongGiven : Gate → List Bool → ℕ) where
   -- the sum over the flips of these gates, from the errors e of the sources before them
   abbrev pub sumFrom : ℕ → List Gate → (ℕ → Bool) → ℕ
   sumFrom s [] e = allRight (map e outputs)
   sumFrom s (g ∷ gs) e =
-      ok g (map e (g .pins)) * sumFrom (suc s) gs (upd e s false) + bad g (map e (g .pins)) * sumFrom (suc s) gs (upd e s true)
+      rightGiven g (map e (g .pins)) * sumFrom (suc s) gs (upd e s false) + wrongGiven g (map e (g .pins)) * sumFrom (suc s) gs (upd e s true)
 
-  module _ (mass : ℕ) (gate-sums : (g : Gate) (bs : List Bool) → ok g bs + bad g bs ≡ mass) where
+  module _ (mass : ℕ) (gate-sums : (g : Gate) (bs : List Bool) → rightGiven g bs + wrongGiven g bs ≡ mass) where
     sum-at-most : ((bs : List Bool) → allRight bs ≤ 1) → (s : ℕ) (gs : List Gate) (e : ℕ → Bool) → sumFrom s gs e ≤ mass ^ length gs
     sum-at-most one s [] e = omega (arith, pow-zero mass, one (map e outputs))
     sum-at-most one s (g ∷ gs) e =
         let bs = map e (g .pins) in
         omega (
           arith,
-          mul-le-mul-left (ok g bs) (sum-at-most one (suc s) gs (upd e s false)),
-          mul-le-mul-left (bad g bs) (sum-at-most one (suc s) gs (upd e s true)),
+          mul-le-mul-left (rightGiven g bs) (sum-at-most one (suc s) gs (upd e s false)),
+          mul-le-mul-left (wrongGiven g bs) (sum-at-most one (suc s) gs (upd e s true)),
           ap (λ (z : ℕ). z * mass ^ length gs) (gate-sums g bs),
           pow-succ' mass (length gs),
         )
@@ -64,7 +64,7 @@ module _ (outputs : List ℕ) (allRight : List Bool → ℕ) (ok bad : Gate → 
         → sumFrom s (g ∷ gs) e ≡ mass * z
     dead-sum s g gs e z f t =
         let bs = map e (g .pins) in
-        ap₂ (λ (x y : ℕ). ok g bs * x + bad g bs * y) f t ∙ omega (arith, ap (λ (k : ℕ). k * z) (gate-sums g bs))
+        ap₂ (λ (x y : ℕ). rightGiven g bs * x + wrongGiven g bs * y) f t ∙ omega (arith, ap (λ (k : ℕ). k * z) (gate-sums g bs))
 
     -- what follows a dead gate reads it nowhere, and so none of its pins
     reads-dead : (s : ℕ) (g : Gate) (gs : List Gate) (later : List ℕ) → ReadsOnly later (sumFrom (suc s) gs) → count s later ≡ 0
@@ -84,7 +84,7 @@ module _ (outputs : List ℕ) (allRight : List Bool → ℕ) (ok bad : Gate → 
         let pins : map e (g .pins) ≡ map e′ (g .pins) = map-agree e e′ (g .pins) (λ t k. h t (omega (arith, count-append t (g .pins) later))) in
         let after : (b : Bool) → Z (upd e s b) ≡ Z (upd e′ s b)
         = λ b. only (upd e s b) (upd e′ s b) (λ t k. ap (cond (eqb t s) b) (h t (omega (arith, count-append t (g .pins) later)))) in
-        ap₂ _+_ (ap₂ _*_ (ap (ok g) pins) (after false)) (ap₂ _*_ (ap (bad g) pins) (after true))
+        ap₂ _+_ (ap₂ _*_ (ap (rightGiven g) pins) (after false)) (ap₂ _*_ (ap (wrongGiven g) pins) (after true))
 
     -- what follows a gate reads only the live reads after it
     pub sum-reads : (s : ℕ) (gs : List Gate) → ReadsOnly (liveReadsFrom outputs s gs) (sumFrom s gs)
@@ -109,7 +109,7 @@ module _ (outputs : List ℕ) (allRight : List Bool → ℕ) (ok bad : Gate → 
           omega (arith, ap (λ (z : ℕ). z * mix w₀ w₁ s Z) (sums s))
 
       module _ (pos : 0 < mass) (u : ℕ) (one : (bs : List Bool) → allRight bs ≤ 1) (charge : Gate → ℕ) where
-        live-step : (s : ℕ) (g : Gate) (gs : List Gate) → Below s (g .pins) → Once w₁ (g .pins ++ liveReadsFrom outputs (suc s) gs) → Local u mass w₀ w₁ bad charge s g
+        live-step : (s : ℕ) (g : Gate) (gs : List Gate) → Below s (g .pins) → Once w₁ (g .pins ++ liveReadsFrom outputs (suc s) gs) → Local u mass w₀ w₁ wrongGiven charge s g
             → Near
             (charge g * (mass * (mass ^ s * mass ^ length gs)))
             (2 * (u * mix w₀ w₁ (suc s) (sumFrom (suc s) gs)))
@@ -121,14 +121,14 @@ module _ (outputs : List ℕ) (allRight : List Bool → ℕ) (ok bad : Gate → 
             let B : (ℕ → Bool) → ℕ = λ e. sumFrom (suc s) gs (upd e s true) in
             let reads : (b : Bool) → ReadsOnly (liveReadsFrom outputs (suc s) gs) (λ e. sumFrom (suc s) gs (upd e s b))
             = λ b e e′ h. sum-reads (suc s) gs (upd e s b) (upd e′ s b) (λ t k. ap (cond (eqb t s) b) (h t k)) in
-            let low : mass ^ length ps * M (λ e. ok g (map e ps) * A e) ≡ foldBits w₀ w₁ ps (ok g) * M A
-            = fold-law w₀ w₁ mass sums s (liveReadsFrom outputs (suc s) gs) A (reads false) ps below once (ok g) in
-            let high : mass ^ length ps * M (λ e. bad g (map e ps) * B e) ≡ foldBits w₀ w₁ ps (bad g) * M B
-            = fold-law w₀ w₁ mass sums s (liveReadsFrom outputs (suc s) gs) B (reads true) ps below once (bad g) in
-            let parts : M (sumFrom s (g ∷ gs)) ≡ M (λ e. ok g (map e ps) * A e) + M (λ e. bad g (map e ps) * B e)
-            = mix-add w₀ w₁ s (λ e. ok g (map e ps) * A e) (λ e. bad g (map e ps) * B e) in
-            let whole : foldBits w₀ w₁ ps (ok g) + foldBits w₀ w₁ ps (bad g) ≡ mass ^ length ps * mass
-            = sym (bits-add w₀ w₁ ps (ok g) (bad g)) ∙ ap (foldBits w₀ w₁ ps) (fun-ext (gate-sums g)) ∙ bits-const w₀ w₁ mass sums ps mass in
+            let low : mass ^ length ps * M (λ e. rightGiven g (map e ps) * A e) ≡ foldBits w₀ w₁ ps (rightGiven g) * M A
+            = fold-law w₀ w₁ mass sums s (liveReadsFrom outputs (suc s) gs) A (reads false) ps below once (rightGiven g) in
+            let high : mass ^ length ps * M (λ e. wrongGiven g (map e ps) * B e) ≡ foldBits w₀ w₁ ps (wrongGiven g) * M B
+            = fold-law w₀ w₁ mass sums s (liveReadsFrom outputs (suc s) gs) B (reads true) ps below once (wrongGiven g) in
+            let parts : M (sumFrom s (g ∷ gs)) ≡ M (λ e. rightGiven g (map e ps) * A e) + M (λ e. wrongGiven g (map e ps) * B e)
+            = mix-add w₀ w₁ s (λ e. rightGiven g (map e ps) * A e) (λ e. wrongGiven g (map e ps) * B e) in
+            let whole : foldBits w₀ w₁ ps (rightGiven g) + foldBits w₀ w₁ ps (wrongGiven g) ≡ mass ^ length ps * mass
+            = sym (bits-add w₀ w₁ ps (rightGiven g) (wrongGiven g)) ∙ ap (foldBits w₀ w₁ ps) (fun-ext (gate-sums g)) ∙ bits-const w₀ w₁ mass sums ps mass in
             replace-mean
             u
             (charge g)
@@ -137,8 +137,8 @@ module _ (outputs : List ℕ) (allRight : List Bool → ℕ) (ok bad : Gate → 
             (mass ^ s * mass ^ length gs)
             (w₀ s)
             (w₁ s)
-            (foldBits w₀ w₁ ps (ok g))
-            (foldBits w₀ w₁ ps (bad g))
+            (foldBits w₀ w₁ ps (rightGiven g))
+            (foldBits w₀ w₁ ps (wrongGiven g))
             (M A)
             (M B)
             (M (sumFrom s (g ∷ gs)))
@@ -153,7 +153,7 @@ module _ (outputs : List ℕ) (allRight : List Bool → ℕ) (ok bad : Gate → 
             refl
 
         -- a live gate costs its charge, a dead one nothing
-        step : (s : ℕ) (g : Gate) (gs : List Gate) (end : ℕ) → s + suc (length gs) ≡ end → Below s (g .pins) → Local u mass w₀ w₁ bad charge s g
+        step : (s : ℕ) (g : Gate) (gs : List Gate) (end : ℕ) → s + suc (length gs) ≡ end → Below s (g .pins) → Local u mass w₀ w₁ wrongGiven charge s g
             → (c : ℕ) → count s (liveReadsFrom outputs (suc s) gs) ≡ c → Once w₁ (cond (isLive c) (g .pins ++ liveReadsFrom outputs (suc s) gs) (liveReadsFrom outputs (suc s) gs))
             → Near
             (ifLive c (charge g) * mass ^ end)
@@ -173,7 +173,7 @@ module _ (outputs : List ℕ) (allRight : List Bool → ℕ) (ok bad : Gate → 
 
         -- all gates replaced, the first first
         pub replace-all : (s : ℕ) (gs : List Gate) (end : ℕ) → s + length gs ≡ end → AllFrom pinsBelow s gs
-            → AllFrom (Local u mass w₀ w₁ bad charge) s gs → Once w₁ (liveReadsFrom outputs s gs)
+            → AllFrom (Local u mass w₀ w₁ wrongGiven charge) s gs → Once w₁ (liveReadsFrom outputs s gs)
             → Near
             (charges outputs charge s gs * mass ^ end)
             (2 * (u * mix w₀ w₁ end (λ e. allRight (map e outputs))))
@@ -184,7 +184,7 @@ module _ (outputs : List ℕ) (allRight : List Bool → ℕ) (ok bad : Gate → 
             omega (arith, ap (λ (z : ℕ). u * z) same)
         replace-all s (g ∷ gs) end e below near once =
             let c = count s (liveReadsFrom outputs (suc s) gs) in
-            let first = step s g gs end e (all-head pinsBelow s g gs below) (all-head (Local u mass w₀ w₁ bad charge) s g gs near) c refl once in
+            let first = step s g gs end e (all-head pinsBelow s g gs below) (all-head (Local u mass w₀ w₁ wrongGiven charge) s g gs near) c refl once in
             let others =
             replace-all
             (suc s)
@@ -192,7 +192,7 @@ module _ (outputs : List ℕ) (allRight : List Bool → ℕ) (ok bad : Gate → 
             end
             (omega arith)
             (all-tail pinsBelow s g gs below)
-            (all-tail (Local u mass w₀ w₁ bad charge) s g gs near)
+            (all-tail (Local u mass w₀ w₁ wrongGiven charge) s g gs near)
             (later-once c (g .pins) (liveReadsFrom outputs (suc s) gs) once) in
             near-at (omega arith) refl refl (near-trans others first)
 

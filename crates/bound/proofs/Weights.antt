@@ -24,14 +24,14 @@ abbrev pub keepWeight : ℕ → ℕ → Gate → ℕ
 keepWeight u d g = u * (d - g .chance)
 
 -- a gate is right if its answer is unmoved and it does not flip, or moved and it flips; else wrong
-abbrev pub ok : ℕ → ℕ → List Bool → Gate → List Bool → ℕ
-ok u d vs g bs = cond (unmoved vs g bs) (keepWeight u d g) (flipWeight u d g)
+abbrev pub rightGiven : ℕ → ℕ → List Bool → Gate → List Bool → ℕ
+rightGiven u d vs g bs = cond (unmoved vs g bs) (keepWeight u d g) (flipWeight u d g)
 
-abbrev pub bad : ℕ → ℕ → List Bool → Gate → List Bool → ℕ
-bad u d vs g bs = cond (unmoved vs g bs) (flipWeight u d g) (keepWeight u d g)
+abbrev pub wrongGiven : ℕ → ℕ → List Bool → Gate → List Bool → ℕ
+wrongGiven u d vs g bs = cond (unmoved vs g bs) (flipWeight u d g) (keepWeight u d g)
 
-pub ok-bad : (u d : ℕ) (vs : List Bool) (g : Gate) (bs : List Bool) → ok u d vs g bs + bad u d vs g bs ≡ u * d
-ok-bad u d vs g bs = go (unmoved vs g bs)
+pub given-sum : (u d : ℕ) (vs : List Bool) (g : Gate) (bs : List Bool) → rightGiven u d vs g bs + wrongGiven u d vs g bs ≡ u * d
+given-sum u d vs g bs = go (unmoved vs g bs)
   where
     both : (d - g .chance) + (d - (d - g .chance)) ≡ d
     both = omega arith

@@ -9,74 +9,58 @@ use native.Mathlib.Omega.{arith}
 use lib.ListN.{length, getD, replicate, length-replicate, getD-replicate, length-map}
 use Rattle.rounding.specs.Rounding.{blend, toUnits}
 use Rattle.rounding.proofs.Laws.{at-most, blend-at-most}
-use Rattle.figure.specs.Figure.{difference, answer, inverted, errorPatterns, startValues, foldPins, gateStep, gateFailure}
+use Rattle.figure.specs.Figure.{difference, answer, inverted, errorPatterns, startValues, foldPins, gateStep, gateFailure, outputStep}
 use Rattle.figure.proofs.Fold.{foldOver, fold-over}
-use Rattle.netlist.specs.Netlist.{Gate, Netlist, noGate, gateAt, pinValues, rightValues}
-use Rattle.netlist.specs.Figures.{pinFailures, failuresFrom, failures}
-use Rattle.netlist.specs.WellFormed.{WellFormed}
-use Rattle.netlist.proofs.Grow.{grow, Looks, Steps, grow-length, grow-keeps, grow-steps, grow-unique, grow-all}
+use Rattle.netlist.specs.Netlist.{Gate, Netlist, gateAt, pinValues, rightValues}
+use Rattle.netlist.specs.Figures.{pinFailures, failuresFrom, failures, reliabilityFrom, reliability}
+use Rattle.netlist.specs.WellFormed.{PinsBelow, WellFormed}
+use Rattle.netlist.proofs.Grow.{Looks, Solves, grow, grow-solves, grow-unique, grow-all}
 use Rattle.netlist.proofs.Values.{pins-agree}
 
 -- a gate's failure from a list of failures; vs are the right values
 abbrev pub failureStep : ℕ → ℕ → List Bool → Gate → List ℕ → ℕ
 failureStep u d vs g fs = gateFailure u (g .table) (pinValues vs (g .pins)) (pinFailures fs (g .pins)) (toUnits u d (g .chance))
 
-failures-grow : (u d : ℕ) (vs : List Bool) (gs : List Gate) (fs : List ℕ) → failuresFrom u d vs gs fs ≡ grow noGate 0 (failureStep u d vs) gs fs
+failures-grow : (u d : ℕ) (vs : List Bool) (gs : List Gate) (fs : List ℕ) → failuresFrom u d vs gs fs ≡ grow 0 (failureStep u d vs) gs fs
 failures-grow u d vs [] fs = refl
 failures-grow u d vs (g ∷ gs) fs = failures-grow u d vs gs (fs ++ (failureStep u d vs g fs ∷ []))
 
-module _ (u d : ℕ) (net : Netlist) (well : WellFormed d net) (q : ℕ) where
-  looks : Looks noGate 0 (failureStep u d (rightValues net q)) (net .inputs) (net .gates)
+grown : (u d : ℕ) (net : Netlist) (q : ℕ) → failures u d net q ≡ grow 0 (failureStep u d (rightValues net q)) (net .gates) (replicate (net .inputs) 0)
+unfolding failures
+grown u d net q = failures-grow u d (rightValues net q) (net .gates) (replicate (net .inputs) 0)
+
+module _ (u d : ℕ) (net : Netlist) (below : PinsBelow net) (q : ℕ) where
+  looks : Looks 0 (failureStep u d (rightValues net q)) (net .inputs) (net .gates)
   looks j l xs ys agree =
       let g = gateAt net j in
       ap
       (λ (fs : List ℕ). gateFailure u (g .table) (pinValues (rightValues net q) (g .pins)) fs (toUnits u d (g .chance)))
-      (pins-agree 0 (net .inputs + j) xs ys (g .pins) (well .pins-below j l) agree)
+      (pins-agree 0 (net .inputs + j) xs ys (g .pins) (below j l) agree)
+
+  pub failures-solve : Solves 0 (failureStep u d (rightValues net q)) (net .inputs) (net .gates) (replicate (net .inputs) 0) (failures u d net q)
+  failures-solve =
+      rw
+      (grown u d net q)
+      (grow-solves 0 (failureStep u d (rightValues net q)) (net .inputs) (net .gates) (replicate (net .inputs) 0) (length-replicate (net .inputs) 0) looks)
 
   pub failures-length : length (failures u d net q) ≡ net .inputs + length (net .gates)
-  unfolding failures
-  failures-length =
-      ap length (failures-grow u d (rightValues net q) (net .gates) (replicate (net .inputs) 0))
-      ∙ grow-length noGate 0 (failureStep u d (rightValues net q)) (net .gates) (replicate (net .inputs) 0)
-      ∙ ap (λ (k : ℕ). k + length (net .gates)) (length-replicate (net .inputs) 0)
+  failures-length = failures-solve .size
 
   -- inputs never fail
   pub failure-input : (i : ℕ) → i < net .inputs → getD (failures u d net q) i 0 ≡ 0
-  unfolding failures
-  failure-input i l =
-      ap (λ (fs : List ℕ). getD fs i 0) (failures-grow u d (rightValues net q) (net .gates) (replicate (net .inputs) 0))
-      ∙ grow-keeps noGate 0 (failureStep u d (rightValues net q)) (net .gates) (replicate (net .inputs) 0) i (omega (arith, length-replicate {A = ℕ} (net .inputs) 0))
-      ∙ getD-replicate (net .inputs) i 0 0 l
+  failure-input i l = sym (failures-solve .start i l) ∙ getD-replicate (net .inputs) i 0 0 l
 
   -- a gate's failure comes from its pins' right values and failures, and its flip
   pub failure-gate : (j : ℕ) → j < length (net .gates)
-      → getD (failures u d net q) (net .inputs + j) 0
-      ≡ gateFailure u (gateAt net j .table) (pinValues (rightValues net q) (gateAt net j .pins)) (pinFailures (failures u d net q) (gateAt net j .pins)) (toUnits u d (gateAt net j .chance))
-  unfolding failures
-  failure-gate =
-      subst
-      (Steps noGate 0 (failureStep u d (rightValues net q)) (net .inputs) (net .gates))
-      (sym (failures-grow u d (rightValues net q) (net .gates) (replicate (net .inputs) 0)))
-      (grow-steps
-      noGate
-      0
-      (failureStep u d (rightValues net q))
-      (net .inputs)
-      (net .gates)
-      (replicate (net .inputs) 0)
-      (length-replicate (net .inputs) 0)
-      looks)
+      → getD (failures u d net q) (net .inputs + j) 0 ≡ failureStep u d (rightValues net q) (gateAt net j) (failures u d net q)
+  failure-gate = failures-solve .steps
 
   pub failures-unique : (fs : List ℕ) → length fs ≡ net .inputs + length (net .gates)
       → ((i : ℕ) → i < net .inputs → getD fs i 0 ≡ 0)
-      → ((j : ℕ) → j < length (net .gates)
-      → getD fs (net .inputs + j) 0
-      ≡ gateFailure u (gateAt net j .table) (pinValues (rightValues net q) (gateAt net j .pins)) (pinFailures fs (gateAt net j .pins)) (toUnits u d (gateAt net j .chance)))
+      → ((j : ℕ) → j < length (net .gates) → getD fs (net .inputs + j) 0 ≡ failureStep u d (rightValues net q) (gateAt net j) fs)
       → fs ≡ failures u d net q
-  unfolding failures
   failures-unique fs size zeros steps =
       grow-unique
-      noGate
       0
       (failureStep u d (rightValues net q))
       (net .inputs)
@@ -84,11 +68,9 @@ module _ (u d : ℕ) (net : Netlist) (well : WellFormed d net) (q : ℕ) where
       (replicate (net .inputs) 0)
       fs
       (length-replicate (net .inputs) 0)
-      size
       looks
-      (λ i l. getD-replicate (net .inputs) i 0 0 l ∙ sym (zeros i l))
-      steps
-      ∙ sym (failures-grow u d (rightValues net q) (net .gates) (replicate (net .inputs) 0))
+      (record { size = size; start = λ i l. getD-replicate (net .inputs) i 0 0 l ∙ sym (zeros i l); steps = steps })
+      ∙ sym (grown u d net q)
 
 -- a chance of at most 1 is at most u units
 pub units-at-most : (u d c : ℕ) → 0 < d → c ≤ d → toUnits u d c ≤ u
@@ -143,13 +125,10 @@ gate-at-most u d posu posd vs g hc fs hf =
 
 -- every failure is at most u
 pub failures-at-most : (u d : ℕ) → 0 < u → 0 < d → (net : Netlist) → WellFormed d net → (q s : ℕ) → getD (failures u d net q) s 0 ≤ u
-unfolding failures
 failures-at-most u d posu posd net well q s =
-    subst
-    (λ (fs : List ℕ). getD fs s 0 ≤ u)
-    (sym (failures-grow u d (rightValues net q) (net .gates) (replicate (net .inputs) 0)))
+    rw
+    (grown u d net q)
     (grow-all
-    noGate
     0
     (failureStep u d (rightValues net q))
     (λ f. f ≤ u)
@@ -164,3 +143,14 @@ failures-at-most u d posu posd net well q s =
     zeros zero i = omega arith
     zeros (suc n) zero = omega arith
     zeros (suc n) (suc i) = zeros n i
+
+-- and so is the reliability
+pub reliability-at-most : (u d : ℕ) → 0 < u → 0 < d → (net : Netlist) → WellFormed d net → (q : ℕ) → reliability u d net q ≤ u
+unfolding reliability outputStep
+reliability-at-most u d posu posd net well q = go (net .outputs) u (le-refl u)
+  where
+    go : (os : List ℕ) (s : ℕ) → s ≤ u → reliabilityFrom u (failures u d net q) s os ≤ u
+    go [] s l = l
+    go (o ∷ os) s l =
+        go os (blend u s 0 (getD (failures u d net q) o 0))
+        (blend-at-most u s 0 (getD (failures u d net q) o 0) u posu (failures-at-most u d posu posd net well q o) l (omega arith))

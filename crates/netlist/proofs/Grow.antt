@@ -2,85 +2,97 @@
 -- and no other list has that. Right values and failures are two such lists. Assumes nothing.
 use Prim.Native.Nat.{ℕ, zero, suc, _+_, _<_}
 use mathlib.Core.List.{List, [], _∷_, _++_}
-use mathlib.Core.Path.{_≡_, refl, sym, ap, subst, _∙_}
+use mathlib.Core.Path.{_≡_, sym, ap, subst, _∙_, refl}
 use mathlib.Core.Logic.{⊎-elim}
 use native.Mathlib.Nat.{add-zero, eq-or-lt-of-le, le-of-suc-le-suc}
 use native.Mathlib.Omega.{arith}
 use lib.ListN.{length, getD, length-append, List·getD-append}
 use lib.Seq.{getD-at, ext-getD}
+use Rattle.netlist.specs.Netlist.{Gate, noGate}
 
-module _ {A B : Type 0} (none : A) (z : B) (step : A → List B → B) where
-  abbrev pub grow : List A → List B → List B
+-- two lists agree below b
+abbrev pub Agree : {B : Type 0} → B → ℕ → List B → List B → Type 0
+Agree z b xs ys = (i : ℕ) → i < b → getD xs i z ≡ getD ys i z
+
+-- step j looks only at entries below n + j
+abbrev pub Looks : {B : Type 0} → B → (Gate → List B → B) → ℕ → List Gate → Type 0
+Looks {B} z step n gs =
+    (j : ℕ) → j < length gs → (xs ys : List B) → Agree z (n + j) xs ys → step (getD gs j noGate) xs ≡ step (getD gs j noGate) ys
+
+-- ys begins as xs, and has at each gate that gate's step on the whole of ys
+pub record Solves {B : Type 0} (z : B) (step : Gate → List B → B) (n : ℕ) (gs : List Gate) (xs ys : List B) : Type 0 where
+  pub size : length ys ≡ n + length gs
+  pub start : Agree z n xs ys
+  pub steps : (j : ℕ) → j < length gs → getD ys (n + j) z ≡ step (getD gs j noGate) ys
+
+module _ {B : Type 0} (z : B) (step : Gate → List B → B) where
+  abbrev pub grow : List Gate → List B → List B
   grow [] xs = xs
-  grow (a ∷ as′) xs = grow as′ (xs ++ (step a xs ∷ []))
+  grow (g ∷ gs) xs = grow gs (xs ++ (step g xs ∷ []))
 
-  -- two lists agree below b
-  abbrev pub Agree : ℕ → List B → List B → Type 0
-  Agree b xs ys = (i : ℕ) → i < b → getD xs i z ≡ getD ys i z
-
-  -- step j looks only at entries below n + j
-  abbrev pub Looks : ℕ → List A → Type 0
-  Looks n as′ = (j : ℕ) → j < length as′ → (xs ys : List B) → Agree (n + j) xs ys → step (getD as′ j none) xs ≡ step (getD as′ j none) ys
-
-  -- the entries from n on are the steps on the whole list
-  abbrev pub Steps : ℕ → List A → List B → Type 0
-  Steps n as′ ys = (j : ℕ) → j < length as′ → getD ys (n + j) z ≡ step (getD as′ j none) ys
-
-  pub grow-length : (as′ : List A) (xs : List B) → length (grow as′ xs) ≡ length xs + length as′
+  grow-length : (gs : List Gate) (xs : List B) → length (grow gs xs) ≡ length xs + length gs
   grow-length [] xs = sym (add-zero (length xs))
-  grow-length (a ∷ as′) xs = omega (arith, grow-length as′ (xs ++ (step a xs ∷ [])), length-append xs (step a xs ∷ []))
+  grow-length (g ∷ gs) xs = omega (arith, grow-length gs (xs ++ (step g xs ∷ [])), length-append xs (step g xs ∷ []))
 
-  pub grow-keeps : (as′ : List A) (xs : List B) (i : ℕ) → i < length xs → getD (grow as′ xs) i z ≡ getD xs i z
+  grow-keeps : (gs : List Gate) (xs : List B) (i : ℕ) → i < length xs → getD xs i z ≡ getD (grow gs xs) i z
   grow-keeps [] xs i l = refl
-  grow-keeps (a ∷ as′) xs i l =
-      grow-keeps as′ (xs ++ (step a xs ∷ [])) i (omega (arith, length-append xs (step a xs ∷ []))) ∙ List·getD-append xs (step a xs ∷ []) z i l
+  grow-keeps (g ∷ gs) xs i l =
+      sym (List·getD-append xs (step g xs ∷ []) z i l) ∙ grow-keeps gs (xs ++ (step g xs ∷ [])) i (omega (arith, length-append xs (step g xs ∷ [])))
 
-  looks-tail : (n : ℕ) (a : A) (as′ : List A) → Looks n (a ∷ as′) → Looks (suc n) as′
-  looks-tail n a as′ h j l xs ys agree =
-      h (suc j) (omega arith) xs ys (λ i k. agree i (omega arith))
+  looks-tail : (n : ℕ) (g : Gate) (gs : List Gate) → Looks z step n (g ∷ gs) → Looks z step (suc n) gs
+  looks-tail n g gs h j l xs ys agree = h (suc j) (omega arith) xs ys (λ i k. agree i (omega arith))
 
-  pub grow-steps : (n : ℕ) (as′ : List A) (xs : List B) → length xs ≡ n → Looks n as′ → Steps n as′ (grow as′ xs)
+  grow-steps : (n : ℕ) (gs : List Gate) (xs : List B) → length xs ≡ n → Looks z step n gs
+      → (j : ℕ) → j < length gs → getD (grow gs xs) (n + j) z ≡ step (getD gs j noGate) (grow gs xs)
   grow-steps n [] xs e looks j l = absurd (omega arith)
-  grow-steps n (a ∷ as′) xs e looks zero l =
-      let longer = xs ++ (step a xs ∷ []) in
-      let size : length longer ≡ suc n = omega (arith, length-append xs (step a xs ∷ [])) in
-      ap (λ (i : ℕ). getD (grow as′ longer) i z) (add-zero n)
-      ∙ grow-keeps as′ longer n (omega arith)
-      ∙ getD-at xs (step a xs) [] z n e
-      ∙ looks 0 (omega arith) xs (grow as′ longer)
-      (λ i k. sym (grow-keeps (a ∷ as′) xs i (omega arith)))
-  grow-steps n (a ∷ as′) xs e looks (suc j) l =
-      let longer = xs ++ (step a xs ∷ []) in
-      let size : length longer ≡ suc n = omega (arith, length-append xs (step a xs ∷ [])) in
+  grow-steps n (g ∷ gs) xs e looks zero l =
+      let longer = xs ++ (step g xs ∷ []) in
+      let size : length longer ≡ suc n = omega (arith, length-append xs (step g xs ∷ [])) in
+      ap (λ (i : ℕ). getD (grow gs longer) i z) (add-zero n)
+      ∙ sym (grow-keeps gs longer n (omega arith))
+      ∙ getD-at xs (step g xs) [] z n e
+      ∙ looks 0 (omega arith) xs (grow gs longer) (λ i k. grow-keeps (g ∷ gs) xs i (omega arith))
+  grow-steps n (g ∷ gs) xs e looks (suc j) l =
+      let longer = xs ++ (step g xs ∷ []) in
+      let size : length longer ≡ suc n = omega (arith, length-append xs (step g xs ∷ [])) in
       let at : n + suc j ≡ suc n + j = omega arith in
-      ap (λ (i : ℕ). getD (grow as′ longer) i z) at ∙ grow-steps (suc n) as′ longer size (looks-tail n a as′ looks) j (omega arith)
+      ap (λ (i : ℕ). getD (grow gs longer) i z) at ∙ grow-steps (suc n) gs longer size (looks-tail n g gs looks) j (omega arith)
 
-  pub grow-unique : (n : ℕ) (as′ : List A) (xs ys : List B) → length xs ≡ n → length ys ≡ n + length as′ → Looks n as′
-      → Agree n xs ys → Steps n as′ ys → ys ≡ grow as′ xs
-  grow-unique n [] xs ys e e′ looks agree steps =
-      ext-getD z ys xs (omega arith) (λ i l. sym (agree i (omega arith)))
-  grow-unique n (a ∷ as′) xs ys e e′ looks agree steps =
-      let longer = xs ++ (step a xs ∷ []) in
-      let size : length longer ≡ suc n = omega (arith, length-append xs (step a xs ∷ [])) in
+  pub grow-solves : (n : ℕ) (gs : List Gate) (xs : List B) → length xs ≡ n → Looks z step n gs → Solves z step n gs xs (grow gs xs)
+  grow-solves n gs xs e looks =
+      record {
+        size = omega (arith, grow-length gs xs);
+        start = λ i l. grow-keeps gs xs i (omega arith);
+        steps = grow-steps n gs xs e looks;
+      }
+
+  pub grow-unique : (n : ℕ) (gs : List Gate) (xs ys : List B) → length xs ≡ n → Looks z step n gs → Solves z step n gs xs ys → ys ≡ grow gs xs
+  grow-unique n [] xs ys e looks s = ext-getD z ys xs (omega (arith, s .size)) (λ i l. sym (s .start i (omega (arith, s .size))))
+  grow-unique n (g ∷ gs) xs ys e looks s =
+      let longer = xs ++ (step g xs ∷ []) in
+      let size : length longer ≡ suc n = omega (arith, length-append xs (step g xs ∷ [])) in
       let here : getD longer n z ≡ getD ys n z
-      = getD-at xs (step a xs) [] z n e
-      ∙ looks 0 (omega arith) xs ys (λ i k. agree i (omega arith))
-      ∙ sym (steps 0 (omega arith))
+      = getD-at xs (step g xs) [] z n e
+      ∙ looks 0 (omega arith) xs ys (λ i k. s .start i (omega arith))
+      ∙ sym (s .steps 0 (omega arith))
       ∙ ap (λ (i : ℕ). getD ys i z) (add-zero n) in
       grow-unique
       (suc n)
-      as′
+      gs
       longer
       ys
       size
-      (omega arith)
-      (looks-tail n a as′ looks)
-      (λ i k.
-      ⊎-elim
-      (λ q. subst (λ (t : ℕ). getD longer t z ≡ getD ys t z) (sym q) here)
-      (λ l. List·getD-append xs (step a xs ∷ []) z i (omega arith) ∙ agree i l)
-      (eq-or-lt-of-le (le-of-suc-le-suc k)))
-      (λ j l. ap (λ (i : ℕ). getD ys i z) (omega arith) ∙ steps (suc j) (omega arith))
+      (looks-tail n g gs looks)
+      (record {
+        size = omega (arith, s .size);
+        start =
+            λ i k.
+            ⊎-elim
+            (λ q. subst (λ (t : ℕ). getD longer t z ≡ getD ys t z) (sym q) here)
+            (λ l. List·getD-append xs (step g xs ∷ []) z i (omega arith) ∙ s .start i l)
+            (eq-or-lt-of-le (le-of-suc-le-suc k));
+        steps = λ j l. ap (λ (i : ℕ). getD ys i z) (omega arith) ∙ s .steps (suc j) (omega arith);
+      })
 
   -- a property that the start and each step have, every entry has
   module _ (Q : B → Type 0) (base : Q z) where
@@ -90,14 +102,9 @@ module _ {A B : Type 0} (none : A) (z : B) (step : A → List B → B) where
     snoc-all (x ∷ xs) h y hy zero = h 0
     snoc-all (x ∷ xs) h y hy (suc i) = snoc-all xs (λ k. h (suc k)) y hy i
 
-    pub grow-all : (as′ : List A) (xs : List B) → ((i : ℕ) → Q (getD xs i z))
-        → ((j : ℕ) → j < length as′ → (ys : List B) → ((i : ℕ) → Q (getD ys i z)) → Q (step (getD as′ j none) ys))
-        → (i : ℕ) → Q (getD (grow as′ xs) i z)
+    pub grow-all : (gs : List Gate) (xs : List B) → ((i : ℕ) → Q (getD xs i z))
+        → ((j : ℕ) → j < length gs → (ys : List B) → ((i : ℕ) → Q (getD ys i z)) → Q (step (getD gs j noGate) ys))
+        → (i : ℕ) → Q (getD (grow gs xs) i z)
     grow-all [] xs h steps i = h i
-    grow-all (a ∷ as′) xs h steps i =
-        grow-all
-        as′
-        (xs ++ (step a xs ∷ []))
-        (snoc-all xs h (step a xs) (steps 0 (omega arith) xs h))
-        (λ j l. steps (suc j) (omega arith))
-        i
+    grow-all (g ∷ gs) xs h steps i =
+        grow-all gs (xs ++ (step g xs ∷ [])) (snoc-all xs h (step g xs) (steps 0 (omega arith) xs h)) (λ j l. steps (suc j) (omega arith)) i

@@ -11,7 +11,7 @@ use lib.ListN.{length, getD, drop}
 use lib.Seq.{drop-cons}
 use Rattle.figure.specs.Figure.{bitOf}
 use Rattle.netlist.specs.Netlist.{Gate, Netlist, noGate, gateAt}
-use Rattle.netlist.specs.WellFormed.{Below, WellFormed}
+use Rattle.netlist.specs.WellFormed.{Below, PinsBelow}
 use Rattle.netlist.specs.Live.{count, isLive, withGate, liveReadsFrom, liveReads, readers, liveAmong, Live, output-reads, gate-reads, Depends, reads, reads-further}
 use Rattle.netlist.specs.Average.{sumBelow}
 use Rattle.netlist.proofs.Each.{AllFrom, all-head, all-tail, pinsBelow}
@@ -118,13 +118,13 @@ live-if : (r k : ℕ) → 0 < r → ifLive r k ≡ k
 live-if zero k h = absurd (omega arith)
 live-if (suc r) k h = refl
 
-module _ (d : ℕ) (net : Netlist) (well : WellFormed d net) where
+module _ (net : Netlist) (below : PinsBelow net) where
   -- readers are counted by live gate's pin and by output
   pub readers-are : (s : ℕ)
       → readers net s
       ≡ count s (net .outputs) + sumBelow (length (net .gates)) (λ j. ifLive (readers net (net .inputs + j)) (count s (gateAt net j .pins)))
   unfolding readers liveReads
-  readers-are s = reads-sum s (net .outputs) (net .inputs) (net .gates) (well .pins-below)
+  readers-are s = reads-sum s (net .outputs) (net .inputs) (net .gates) below
 
   -- a gate is live if an output or a live gate reads it: it has a live reader exactly then
   pub live-readers : {s : ℕ} → Live net s → 0 < readers net s
@@ -151,13 +151,13 @@ module _ (d : ℕ) (net : Netlist) (well : WellFormed d net) where
   readers-fuel zero s fuel h =
       ⊎-elim
       output-reads
-      (λ w. absurd (omega (arith, w .1, below-count (net .inputs + w .0) s (gateAt net (w .0) .pins) (well .pins-below (w .0) (w .1)) (w .3))))
+      (λ w. absurd (omega (arith, w .1, below-count (net .inputs + w .0) s (gateAt net (w .0) .pins) (below (w .0) (w .1)) (w .3))))
       (some-reader s h)
   readers-fuel (suc k) s fuel h =
       ⊎-elim
       output-reads
       (λ w.
-      let later = below-count (net .inputs + w .0) s (gateAt net (w .0) .pins) (well .pins-below (w .0) (w .1)) (w .3) in
+      let later = below-count (net .inputs + w .0) s (gateAt net (w .0) .pins) (below (w .0) (w .1)) (w .3) in
       gate-reads (w .0) (w .1) (readers-fuel k (net .inputs + w .0) (omega arith) (w .2)) (w .3))
       (some-reader s h)
 
@@ -166,6 +166,6 @@ module _ (d : ℕ) (net : Netlist) (well : WellFormed d net) where
 
   -- a gate depends only on earlier sources
   pub depends-earlier : {s t : ℕ} → Depends net s t → t < s
-  depends-earlier (reads {t = t} j l h) = below-count (net .inputs + j) t (gateAt net j .pins) (well .pins-below j l) h
+  depends-earlier (reads {t = t} j l h) = below-count (net .inputs + j) t (gateAt net j .pins) (below j l) h
   depends-earlier (reads-further j r l h more) =
-      omega (arith, depends-earlier more, below-count (net .inputs + j) r (gateAt net j .pins) (well .pins-below j l) h)
+      omega (arith, depends-earlier more, below-count (net .inputs + j) r (gateAt net j .pins) (below j l) h)

@@ -8,10 +8,10 @@ use native.Mathlib.Nat.{pow-succ', div-one, div-div-eq-div-mul}
 use native.Mathlib.Omega.{arith}
 use lib.ListN.{length, getD}
 use Rattle.figure.specs.Figure.{isOdd, answer}
-use Rattle.netlist.specs.Netlist.{Gate, Netlist, noGate, gateAt, inputValues, pinValues, values, rightValues}
-use Rattle.netlist.specs.WellFormed.{Below, WellFormed}
+use Rattle.netlist.specs.Netlist.{Gate, Netlist, gateAt, inputValues, pinValues, values, rightValues}
+use Rattle.netlist.specs.WellFormed.{Below, PinsBelow}
 use Rattle.netlist.proofs.Count.{below-tail}
-use Rattle.netlist.proofs.Grow.{grow, Looks, Steps, grow-length, grow-keeps, grow-steps, grow-unique}
+use Rattle.netlist.proofs.Grow.{Looks, Solves, grow, grow-solves, grow-unique}
 
 pub inputs-length : (n q : ℕ) → length (inputValues n q) ≡ n
 inputs-length zero q = refl
@@ -34,47 +34,39 @@ pins-agree z b xs ys (p ∷ ps) below agree =
 abbrev pub rightStep : Gate → List Bool → Bool
 rightStep g vs = answer (g .table) (pinValues vs (g .pins))
 
-values-grow : (gs : List Gate) (vs : List Bool) → values gs [] vs ≡ grow noGate false rightStep gs vs
+values-grow : (gs : List Gate) (vs : List Bool) → values gs [] vs ≡ grow false rightStep gs vs
 values-grow [] vs = refl
 values-grow (g ∷ gs) vs = values-grow gs (vs ++ (rightStep g vs ∷ []))
 
-module _ (d : ℕ) (net : Netlist) (well : WellFormed d net) (q : ℕ) where
-  looks : Looks noGate false rightStep (net .inputs) (net .gates)
-  looks j l xs ys agree = ap (answer (gateAt net j .table)) (pins-agree false (net .inputs + j) xs ys (gateAt net j .pins) (well .pins-below j l) agree)
+module _ (net : Netlist) (below : PinsBelow net) (q : ℕ) where
+  looks : Looks false rightStep (net .inputs) (net .gates)
+  looks j l xs ys agree = ap (answer (gateAt net j .table)) (pins-agree false (net .inputs + j) xs ys (gateAt net j .pins) (below j l) agree)
+
+  right-grow : rightValues net q ≡ grow false rightStep (net .gates) (inputValues (net .inputs) q)
+  unfolding rightValues
+  right-grow = values-grow (net .gates) (inputValues (net .inputs) q)
+
+  pub right-solves : Solves false rightStep (net .inputs) (net .gates) (inputValues (net .inputs) q) (rightValues net q)
+  right-solves = rw right-grow (grow-solves false rightStep (net .inputs) (net .gates) (inputValues (net .inputs) q) (inputs-length (net .inputs) q) looks)
 
   pub right-length : length (rightValues net q) ≡ net .inputs + length (net .gates)
-  unfolding rightValues
-  right-length =
-      ap length (values-grow (net .gates) (inputValues (net .inputs) q))
-      ∙ grow-length noGate false rightStep (net .gates) (inputValues (net .inputs) q)
-      ∙ ap (λ (k : ℕ). k + length (net .gates)) (inputs-length (net .inputs) q)
+  right-length = right-solves .size
 
   -- an input's value is its bit of the pattern
   pub right-input : (i : ℕ) → i < net .inputs → getD (rightValues net q) i false ≡ isOdd (q / 2 ^ i)
-  unfolding rightValues
-  right-input i l =
-      ap (λ (vs : List Bool). getD vs i false) (values-grow (net .gates) (inputValues (net .inputs) q))
-      ∙ grow-keeps noGate false rightStep (net .gates) (inputValues (net .inputs) q) i (omega (arith, inputs-length (net .inputs) q))
-      ∙ input-value (net .inputs) q i l
+  right-input i l = sym (right-solves .start i l) ∙ input-value (net .inputs) q i l
 
   -- a gate's value is its table's answer on its pins' values
   pub right-gate : (j : ℕ) → j < length (net .gates)
       → getD (rightValues net q) (net .inputs + j) false ≡ answer (gateAt net j .table) (pinValues (rightValues net q) (gateAt net j .pins))
-  unfolding rightValues
-  right-gate =
-      subst
-      (Steps noGate false rightStep (net .inputs) (net .gates))
-      (sym (values-grow (net .gates) (inputValues (net .inputs) q)))
-      (grow-steps noGate false rightStep (net .inputs) (net .gates) (inputValues (net .inputs) q) (inputs-length (net .inputs) q) looks)
+  right-gate = right-solves .steps
 
   pub right-unique : (vs : List Bool) → length vs ≡ net .inputs + length (net .gates)
       → ((i : ℕ) → i < net .inputs → getD vs i false ≡ isOdd (q / 2 ^ i))
       → ((j : ℕ) → j < length (net .gates) → getD vs (net .inputs + j) false ≡ answer (gateAt net j .table) (pinValues vs (gateAt net j .pins)))
       → vs ≡ rightValues net q
-  unfolding rightValues
   right-unique vs size bits steps =
       grow-unique
-      noGate
       false
       rightStep
       (net .inputs)
@@ -82,8 +74,6 @@ module _ (d : ℕ) (net : Netlist) (well : WellFormed d net) (q : ℕ) where
       (inputValues (net .inputs) q)
       vs
       (inputs-length (net .inputs) q)
-      size
       looks
-      (λ i l. input-value (net .inputs) q i l ∙ sym (bits i l))
-      steps
-      ∙ sym (values-grow (net .gates) (inputValues (net .inputs) q))
+      (record { size = size; start = λ i l. input-value (net .inputs) q i l ∙ sym (bits i l); steps = steps })
+      ∙ sym right-grow
