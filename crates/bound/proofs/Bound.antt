@@ -62,9 +62,12 @@ module _ (u d : ℕ) (posu : 0 < u) (posd : 0 < d) (net : Netlist) (well : WellF
   pos : 0 < u * d
   pos = mul-pos posu posd
 
-  -- the exact sum as a sum over errors
-  exact-is : u ^ length (net .gates) * exactSum d net q
-      ≡ sumFrom (net .outputs) (ifRight 1) (rightGiven u d (rightValues net q)) (wrongGiven u d (rightValues net q)) (net .inputs) (net .gates) (λ t. false)
+  -- the sum over errors, from errors of the inputs
+  abbrev errorSum : (ℕ → Bool) → ℕ
+  errorSum = sumFrom (net .outputs) (ifRight 1) (rightGiven u d (rightValues net q)) (wrongGiven u d (rightValues net q)) (net .inputs) (net .gates)
+
+  -- the exact sum is that of inputs without errors
+  exact-is : u ^ length (net .gates) * exactSum d net q ≡ errorSum (λ t. false)
   unfolding exactSum
   exact-is =
       literal
@@ -94,7 +97,9 @@ module _ (u d : ℕ) (posu : 0 < u) (posd : 0 < d) (net : Netlist) (well : WellF
         (λ l. absurd (omega (arith, ap (λ (z : ℕ). d * z) (failure-input u d net (well .pins-below) q p (omega arith)))))
       where
         outside : net .inputs + length (net .gates) ≤ p → ⊥
-        outside k = omega (arith, ap (λ (z : ℕ). d * z) (List·getD-eq-default (failures u d net q) 0 {n = p} (omega (arith, failures-length u d net (well .pins-below) q))))
+        outside k =
+            let ends : length (failures u d net q) ≤ p = omega (arith, failures-length u d net (well .pins-below) q) in
+            omega (arith, ap (λ (z : ℕ). d * z) (List·getD-eq-default (failures u d net q) 0 ends))
 
         inside : net .inputs ≤ p → p < net .inputs + length (net .gates) → count p (liveReadsFrom (net .outputs) (net .inputs) (net .gates)) ≤ 1
         inside l k =
@@ -121,21 +126,38 @@ module _ (u d : ℕ) (posu : 0 < u) (posd : 0 < d) (net : Netlist) (well : WellF
         let all : ℕ = mix r w (n + G) (λ e. ifRight 1 (map e (net .outputs))) in
         let M : ℕ = (u * d) ^ (n + G) in
         let K : ℕ = (u * d) ^ n * u ^ G in
+        let outputs-once : Once w (net .outputs) = λ p h. omega (arith, once p h, count-outputs p (net .outputs) n (net .gates)) in
         let last : Near (out * M) (2 * (rel * M)) (2 * (u * all))
-        = replace-outputs (net .outputs) (ifRight 1) (rightGiven u d rs) (wrongGiven u d rs) (u * d) (given-sum u d rs) r w sums pos u right-at-most charge (n + G) out rel (well .outputs-below)
-        (λ p h. omega (arith, once p h, count-outputs p (net .outputs) n (net .gates))) outs in
-        let first : Near (c * M) (2 * (u * all)) (2 * (u * mix r w n (sumFrom (net .outputs) (ifRight 1) (rightGiven u d rs) (wrongGiven u d rs) n (net .gates))))
-        = replace-all (net .outputs) (ifRight 1) (rightGiven u d rs) (wrongGiven u d rs) (u * d) (given-sum u d rs) r w sums pos u right-at-most charge n (net .gates) (n + G) refl (well .pins-below) gates once in
-        let scale : M ≡ K * d ^ G
-        = pow-add (u * d) n G ∙ ap (λ (z : ℕ). (u * d) ^ n * z) (mul-pow u d G) ∙ omega arith in
-        let start : mix r w n (sumFrom (net .outputs) (ifRight 1) (rightGiven u d rs) (wrongGiven u d rs) n (net .gates)) ≡ K * exactSum d net q
-        = mix-sure r w (u * d) sums n (λ t l. ap (λ (z : ℕ). d * z) (failure-input u d net (well .pins-below) q t l) ∙ mul-zero d) _
-        ∙ ap (λ (z : ℕ). (u * d) ^ n * z) (sym exact-is)
-        ∙ omega arith in
+        = replace-outputs r w (u * d) sums pos u (n + G) out rel (net .outputs) (ifRight 1) (well .outputs-below) outputs-once outs in
+        let first : Near (c * M) (2 * (u * all)) (2 * (u * mix r w n errorSum))
+        = replace-all
+        (net .outputs)
+        (ifRight 1)
+        (rightGiven u d rs)
+        (wrongGiven u d rs)
+        (u * d)
+        (given-sum u d rs)
+        r
+        w
+        sums
+        pos
+        u
+        right-at-most
+        charge
+        n
+        (net .gates)
+        (n + G)
+        refl
+        (well .pins-below)
+        gates
+        once in
+        let scale : M ≡ K * d ^ G = pow-add (u * d) n G ∙ ap (λ (z : ℕ). (u * d) ^ n * z) (mul-pow u d G) ∙ omega arith in
+        let sure : (t : ℕ) → t < n → w t ≡ 0 = λ t l. ap (λ (z : ℕ). d * z) (failure-input u d net (well .pins-below) q t l) ∙ mul-zero d in
+        let start : mix r w n errorSum ≡ K * exactSum d net q
+        = mix-sure r w (u * d) sums n sure errorSum ∙ ap (λ (z : ℕ). (u * d) ^ n * z) (sym exact-is) ∙ omega arith in
         let e : out * M + c * M ≡ K * ((c + out) * d ^ G) = ap (λ (z : ℕ). out * z + c * z) scale ∙ omega arith in
         let a : 2 * (rel * M) ≡ K * (2 * (rel * d ^ G)) = ap (λ (z : ℕ). 2 * (rel * z)) scale ∙ omega arith in
-        let b : 2 * (u * mix r w n (sumFrom (net .outputs) (ifRight 1) (rightGiven u d rs) (wrongGiven u d rs) n (net .gates))) ≡ K * (2 * (u * exactSum d net q))
-        = ap (λ (z : ℕ). 2 * (u * z)) start ∙ omega arith in
+        let b : 2 * (u * mix r w n errorSum) ≡ K * (2 * (u * exactSum d net q)) = ap (λ (z : ℕ). 2 * (u * z)) start ∙ omega arith in
         near-cancel
         K
         ((c + out) * d ^ G)
@@ -161,11 +183,12 @@ module _ (u d : ℕ) (posu : 0 < u) (posd : 0 < d) (net : Netlist) (well : WellF
         let g = gateAt net j in
         let vs = rightValues net q in
         let fs = failures u d net q in
-        let figure : f (net .inputs + j) ≡ gateStep u (foldOver u (map f (g .pins)) (difference u (g .table) (pinValues vs (g .pins)))) (toUnits u d (g .chance))
+        let same : length (pinValues vs (g .pins)) ≡ length (pinFailures fs (g .pins))
+        = length-map (g .pins) (λ (p : ℕ). getD vs p false) ∙ sym (length-map (g .pins) f) in
+        let p = toUnits u d (g .chance) in
+        let figure : f (net .inputs + j) ≡ gateStep u (foldOver u (map f (g .pins)) (difference u (g .table) (pinValues vs (g .pins)))) p
         = failure-gate u d net (well .pins-below) q j l
-        ∙ ap
-        (λ (m : ℕ). gateStep u m (toUnits u d (g .chance)))
-        (start-fold u (g .table) (pinValues vs (g .pins)) (pinFailures fs (g .pins)) (length-map (g .pins) (λ (p : ℕ). getD vs p false) ∙ sym (length-map (g .pins) f))) in
+        ∙ ap (λ (m : ℕ). gateStep u m p) (start-fold u (g .table) (pinValues vs (g .pins)) (pinFailures fs (g .pins)) same) in
         near-at
         refl
         (ap (λ (z : ℕ). 2 * (u * ((u * d) ^ length (g .pins) * (d * z)))) (sym figure))

@@ -11,13 +11,13 @@ use Rattle.netlist.specs.WellFormed.{Below, WellFormed}
 use Rattle.netlist.specs.Exact.{exactSum}
 use Rattle.netlist.specs.Figures.{failures, reliability}
 use Rattle.netlist.specs.Live.{liveReads, readers, liveGates, SingleReaders}
-use Rattle.netlist.specs.Sheets.{chanceOne, chanceHalf, buffer, andNever, printed, shared}
+use Rattle.netlist.specs.Sheets.{chanceOne, chanceHalf, printed, shared}
 use Rattle.bound.specs.Statements.{denominator}
 use Rattle.bound.proofs.Average.{reliability-bound}
 
 -- the printed sheet meets what the bound asks
 pub printed-well : WellFormed chanceOne printed
-unfolding printed buffer andNever chanceOne chanceHalf
+unfolding chanceOne chanceHalf
 printed-well =
     record { pins-below = pins; chances = chances; outputs-below = outputs }
   where
@@ -42,7 +42,7 @@ printed-well =
     outputs (suc i) l = absurd (omega arith)
 
 pub printed-single : SingleReaders printed
-unfolding SingleReaders readers liveReads printed buffer andNever
+unfolding SingleReaders readers liveReads
 printed-single zero l = lit≤ tt
 printed-single (suc zero) l = lit≤ tt
 printed-single (suc (suc zero)) l = lit≤ tt
@@ -58,7 +58,7 @@ pub printed-bound : (q : ℕ)
     (9 * denominator chanceOne printed)
     (2 * (reliability unitsInOne chanceOne printed q * denominator chanceOne printed))
     (2 * (unitsInOne * exactSum chanceOne printed q))
-unfolding liveGates liveReads printed buffer andNever
+unfolding liveGates liveReads
 printed-bound q = reliability-bound unitsInOne chanceOne (lit< tt) one-positive printed printed-well printed-single q
 
 -- a gate on two outputs breaks the bound
@@ -67,5 +67,7 @@ pub shared-breaks : Near
     (2 * (reliability unitsInOne chanceOne shared 0 * denominator chanceOne shared))
     (2 * (unitsInOne * exactSum chanceOne shared 0))
     → ⊥
-unfolding liveGates liveReads shared buffer chanceOne chanceHalf exactSum reliability failures rightValues gateFailure gateStep startValues difference answer outputStep blend roundDiv toUnits
+unfolding
+    liveGates liveReads chanceOne chanceHalf exactSum reliability failures rightValues
+    gateFailure gateStep startValues difference answer outputStep blend roundDiv toUnits
 shared-breaks n = le→leb (2 * (unitsInOne * exactSum chanceOne shared 0)) _ (n .down)

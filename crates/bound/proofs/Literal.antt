@@ -53,6 +53,10 @@ outputs-wrong rs s vs e h (o ∷ os) below =
     go false true ih = ih
     go false false ih = ih
 
+-- rs has at source t the right value of gate g
+abbrev pub RightAt : List Bool → ℕ → Gate → Type 0
+RightAt rs t g = getD rs t false ≡ answer (g .table) (pinValues rs (g .pins))
+
 -- a gate is wrong if it flips and its answer is unmoved, or does not flip and its answer is moved
 abbrev wrongBit : Bool → Bool → Bool
 wrongBit true flip = flip
@@ -114,7 +118,7 @@ module _ (u d : ℕ) (outputs : List ℕ) (rs : List Bool) where
 
   pub literal : (s : ℕ) (gs : List Gate) (vs : List Bool) (e : ℕ → Bool) → length vs ≡ s → Wrong rs s vs e
       → AllFrom pinsBelow s gs → AllFrom (λ t g. g .chance ≤ d) s gs
-      → AllFrom (λ t g. getD rs t false ≡ answer (g .table) (pinValues rs (g .pins))) s gs
+      → AllFrom (RightAt rs) s gs
       → Below (s + length gs) outputs
       → u ^ length gs * flipSum gs vs ≡ errorSum s gs e
   literal s [] vs e size wrong below chances right outs =
@@ -127,7 +131,7 @@ module _ (u d : ℕ) (outputs : List ℕ) (rs : List Bool) where
       let m = unmoved rs g (map e (g .pins)) in
       let moved : Bool·beq a r ≡ m = ap (λ (ws : List Bool). Bool·beq (answer (g .table) ws) r) pins in
       let value : (flip : Bool) → invertIf flip a ≡ invertIf (wrongBit m flip) (getD rs s false)
-      = λ flip. bit-value flip a r ∙ ap₂ (λ (c v : Bool). invertIf (wrongBit c flip) v) moved (sym (all-head (λ t g. getD rs t false ≡ answer (g .table) (pinValues rs (g .pins))) s g gs right)) in
+      = λ flip. bit-value flip a r ∙ ap₂ (λ (c v : Bool). invertIf (wrongBit c flip) v) moved (sym (all-head (RightAt rs) s g gs right)) in
       let next : (flip : Bool) → u ^ length gs * flipSum gs (vs ++ (invertIf flip a ∷ [])) ≡ errorSum (suc s) gs (upd e s (wrongBit m flip))
       = λ flip.
       literal
@@ -139,7 +143,7 @@ module _ (u d : ℕ) (outputs : List ℕ) (rs : List Bool) where
       (wrong-next rs s vs e size wrong (invertIf flip a) (wrongBit m flip) (value flip))
       (all-tail pinsBelow s g gs below)
       (all-tail (λ t g. g .chance ≤ d) s g gs chances)
-      (all-tail (λ t g. getD rs t false ≡ answer (g .table) (pinValues rs (g .pins))) s g gs right)
+      (all-tail (RightAt rs) s g gs right)
       (λ i l. omega (arith, outs i l)) in
       let chance : g .chance ≤ d = all-head (λ t g. g .chance ≤ d) s g gs chances in
       let p = u ^ length gs in

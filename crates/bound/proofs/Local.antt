@@ -106,7 +106,10 @@ module _ (u d : ℕ) (posu : 0 < u) (posd : 0 < d) (fs : List ℕ) (small : (s :
       let m-most : m ≤ u = fold-at-most u u posu (map f ps) (maps ps) W (difference-at-most u (g .table) (pinValues vs ps)) in
       let p-most : p ≤ u = units-at-most u d (g .chance) posd hc in
       let whole : foldBits r w ps moved + foldBits r w ps still ≡ x
-      = sym (bits-add r w ps moved still) ∙ ap (foldBits r w ps) (fun-ext (λ bs. one (unmoved vs g bs))) ∙ bits-const r w (u * d) (weights-sum u d f small) ps 1 ∙ mul-one x in
+      = sym (bits-add r w ps moved still)
+      ∙ ap (foldBits r w ps) (fun-ext (λ bs. one (unmoved vs g bs)))
+      ∙ bits-const r w (u * d) (weights-sum u d f small) ps 1
+      ∙ mul-one x in
       let parts : foldBits r w ps (wrongGiven u d vs g) ≡ u * (d - g .chance) * foldBits r w ps moved + u * g .chance * foldBits r w ps still
       = ap (foldBits r w ps) (fun-ext (λ bs. split (unmoved vs g bs))) ∙ bits-linear r w ps (u * (d - g .chance)) (u * g .chance) moved still in
       near-at

@@ -39,6 +39,32 @@ Local u mass w₀ w₁ wrongGiven charge s g =
     (2 * (u * (mass ^ length (g .pins) * w₁ s)))
     (2 * (u * foldBits w₀ w₁ (g .pins) (wrongGiven g)))
 
+-- the outputs are folded like a gate's pins; rel is the rounded fold, `charge` half units away at most
+module _ (w₀ w₁ : ℕ → ℕ) (mass : ℕ) (sums : (s : ℕ) → w₀ s + w₁ s ≡ mass) (pos : 0 < mass) where
+  pub replace-outputs : (u end charge rel : ℕ) (outputs : List ℕ) (allRight : List Bool → ℕ) → Below end outputs → Once w₁ outputs
+      → Near (charge * mass ^ length outputs) (2 * (rel * mass ^ length outputs)) (2 * (u * foldBits w₀ w₁ outputs allRight))
+      → Near (charge * mass ^ end) (2 * (rel * mass ^ end)) (2 * (u * mix w₀ w₁ end (λ e. allRight (map e outputs))))
+  replace-outputs u end charge rel outputs allRight below once near =
+      let P = mass ^ length outputs in
+      let φ = foldBits w₀ w₁ outputs allRight in
+      let X = mix w₀ w₁ end (λ e. allRight (map e outputs)) in
+      let alone : Once w₁ (outputs ++ []) = λ p h. omega (arith, once p h, ap (count p) (append-nil outputs)) in
+      let law : P * mix w₀ w₁ end (λ e. allRight (map e outputs) * 1) ≡ φ * mix w₀ w₁ end (λ e. 1)
+      = fold-law w₀ w₁ mass sums end [] (λ e. 1) (λ e e′ h. refl) outputs below alone allRight in
+      let all : mix w₀ w₁ end (λ e. 1) ≡ mass ^ end = mix-const w₀ w₁ mass sums end 1 ∙ mul-one (mass ^ end) in
+      let whole : P * X ≡ φ * mass ^ end
+      = ap (λ (z : ℕ). P * z) (mix-same w₀ w₁ end _ _ (λ e. omega arith)) ∙ law ∙ ap (λ (z : ℕ). φ * z) all in
+      let e : mass ^ end * (charge * P) ≡ P * (charge * mass ^ end) = omega arith in
+      let a : mass ^ end * (2 * (rel * P)) ≡ P * (2 * (rel * mass ^ end)) = omega arith in
+      let b : mass ^ end * (2 * (u * φ)) ≡ P * (2 * (u * X)) = omega (arith, ap (λ (z : ℕ). u * z) whole) in
+      near-cancel
+      P
+      (charge * mass ^ end)
+      (2 * (rel * mass ^ end))
+      (2 * (u * X))
+      (one-le-pow (length outputs) mass pos)
+      (near-at e a b (near-scale (mass ^ end) near))
+
 module _ (outputs : List ℕ) (allRight : List Bool → ℕ) (rightGiven wrongGiven : Gate → List Bool → ℕ) where
   -- the sum over the flips of these gates, from the errors e of the sources before them
   abbrev pub sumFrom : ℕ → List Gate → (ℕ → Bool) → ℕ
@@ -109,7 +135,8 @@ module _ (outputs : List ℕ) (allRight : List Bool → ℕ) (rightGiven wrongGi
           omega (arith, ap (λ (z : ℕ). z * mix w₀ w₁ s Z) (sums s))
 
       module _ (pos : 0 < mass) (u : ℕ) (one : (bs : List Bool) → allRight bs ≤ 1) (charge : Gate → ℕ) where
-        live-step : (s : ℕ) (g : Gate) (gs : List Gate) → Below s (g .pins) → Once w₁ (g .pins ++ liveReadsFrom outputs (suc s) gs) → Local u mass w₀ w₁ wrongGiven charge s g
+        live-step : (s : ℕ) (g : Gate) (gs : List Gate) → Below s (g .pins) → Once w₁ (g .pins ++ liveReadsFrom outputs (suc s) gs)
+            → Local u mass w₀ w₁ wrongGiven charge s g
             → Near
             (charge g * (mass * (mass ^ s * mass ^ length gs)))
             (2 * (u * mix w₀ w₁ (suc s) (sumFrom (suc s) gs)))
@@ -154,7 +181,8 @@ module _ (outputs : List ℕ) (allRight : List Bool → ℕ) (rightGiven wrongGi
 
         -- a live gate costs its charge, a dead one nothing
         step : (s : ℕ) (g : Gate) (gs : List Gate) (end : ℕ) → s + suc (length gs) ≡ end → Below s (g .pins) → Local u mass w₀ w₁ wrongGiven charge s g
-            → (c : ℕ) → count s (liveReadsFrom outputs (suc s) gs) ≡ c → Once w₁ (cond (isLive c) (g .pins ++ liveReadsFrom outputs (suc s) gs) (liveReadsFrom outputs (suc s) gs))
+            → (c : ℕ) → count s (liveReadsFrom outputs (suc s) gs) ≡ c
+            → Once w₁ (cond (isLive c) (g .pins ++ liveReadsFrom outputs (suc s) gs) (liveReadsFrom outputs (suc s) gs))
             → Near
             (ifLive c (charge g) * mass ^ end)
             (2 * (u * mix w₀ w₁ (suc s) (sumFrom (suc s) gs)))
@@ -195,26 +223,3 @@ module _ (outputs : List ℕ) (allRight : List Bool → ℕ) (rightGiven wrongGi
             (all-tail (Local u mass w₀ w₁ wrongGiven charge) s g gs near)
             (later-once c (g .pins) (liveReadsFrom outputs (suc s) gs) once) in
             near-at (omega arith) refl refl (near-trans others first)
-
-        -- the outputs are folded like a gate's pins
-        pub replace-outputs : (end out rel : ℕ) → Below end outputs → Once w₁ outputs
-            → Near (out * mass ^ length outputs) (2 * (rel * mass ^ length outputs)) (2 * (u * foldBits w₀ w₁ outputs allRight))
-            → Near (out * mass ^ end) (2 * (rel * mass ^ end)) (2 * (u * mix w₀ w₁ end (λ e. allRight (map e outputs))))
-        replace-outputs end out rel below once near =
-            let P = mass ^ length outputs in
-            let φ = foldBits w₀ w₁ outputs allRight in
-            let X = mix w₀ w₁ end (λ e. allRight (map e outputs)) in
-            let law : P * mix w₀ w₁ end (λ e. allRight (map e outputs) * 1) ≡ φ * mix w₀ w₁ end (λ e. 1)
-            = fold-law w₀ w₁ mass sums end [] (λ e. 1) (λ e e′ h. refl) outputs below (λ p h. omega (arith, once p h, ap (count p) (append-nil outputs))) allRight in
-            let whole : P * X ≡ φ * mass ^ end
-            = ap (λ (z : ℕ). P * z) (mix-same w₀ w₁ end _ _ (λ e. omega arith)) ∙ law ∙ ap (λ (z : ℕ). φ * z) (mix-const w₀ w₁ mass sums end 1 ∙ mul-one (mass ^ end)) in
-            let e : mass ^ end * (out * P) ≡ P * (out * mass ^ end) = omega arith in
-            let a : mass ^ end * (2 * (rel * P)) ≡ P * (2 * (rel * mass ^ end)) = omega arith in
-            let b : mass ^ end * (2 * (u * φ)) ≡ P * (2 * (u * X)) = omega (arith, ap (λ (z : ℕ). u * z) whole) in
-            near-cancel
-            P
-            (out * mass ^ end)
-            (2 * (rel * mass ^ end))
-            (2 * (u * X))
-            (one-le-pow (length outputs) mass pos)
-            (near-at e a b (near-scale (mass ^ end) near))

@@ -49,7 +49,8 @@ wrong-weight u d f s = d * f s
 pub weights-sum : (u d : ℕ) (f : ℕ → ℕ) → ((s : ℕ) → f s ≤ u) → (s : ℕ) → right-weight u d f s + wrong-weight u d f s ≡ u * d
 weights-sum u d f f-most s = omega (arith, ap (λ (z : ℕ). d * z) (sub-add-cancel (f-most s)))
 
-module _ (u d : ℕ) (posu : 0 < u) (f : ℕ → ℕ) (f-most : (s : ℕ) → f s ≤ u) (mayFail : ℕ → Bool) (never : (s : ℕ) → mayFail s ≡ false → f s ≡ 0) where
+module _ (u d : ℕ) (posu : 0 < u) (f : ℕ → ℕ) (f-most : (s : ℕ) → f s ≤ u)
+    (mayFail : ℕ → Bool) (never : (s : ℕ) → mayFail s ≡ false → f s ≡ 0) where
   pin-near : (p k x : ℕ) (W X : List Bool → ℕ) → ((bs : List Bool) → Near (k * x) (2 * (W bs * x)) (2 * (u * X bs)))
       → (c : Bool) → mayFail p ≡ c → (bs : List Bool)
       → Near

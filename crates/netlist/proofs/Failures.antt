@@ -3,7 +3,7 @@
 use Prim.Native.Nat.{ℕ, zero, suc, _+_, _-_, _*_, _≤_, _<_}
 use mathlib.Core.Bool.{Bool, true, false, Bool·beq, cond}
 use mathlib.Core.List.{List, [], _∷_, _++_, map}
-use mathlib.Core.Path.{_≡_, refl, sym, ap, subst, _∙_}
+use mathlib.Core.Path.{_≡_, refl, sym, ap, _∙_}
 use native.Mathlib.Nat.{le-refl, mul-le-mul-right}
 use native.Mathlib.Omega.{arith}
 use lib.ListN.{length, getD, replicate, length-replicate, getD-replicate, length-map}
@@ -78,7 +78,8 @@ unfolding toUnits
 units-at-most u d c pos h = at-most (c * u) d pos u (omega (arith, mul-le-mul-right u h))
 
 -- a fold of values of at most k is at most k
-pub fold-at-most : (u k : ℕ) → 0 < u → (fs : List ℕ) → ((i : ℕ) → getD fs i 0 ≤ u) → (W : List Bool → ℕ) → ((bs : List Bool) → W bs ≤ k) → foldOver u fs W ≤ k
+pub fold-at-most : (u k : ℕ) → 0 < u → (fs : List ℕ) → ((i : ℕ) → getD fs i 0 ≤ u) → (W : List Bool → ℕ) → ((bs : List Bool) → W bs ≤ k)
+    → foldOver u fs W ≤ k
 fold-at-most u k pos [] hf W h = h []
 fold-at-most u k pos (f ∷ fs) hf W h =
     fold-at-most

@@ -12,7 +12,8 @@ use lib.Seq.{drop-cons}
 use Rattle.figure.specs.Figure.{bitOf}
 use Rattle.netlist.specs.Netlist.{Gate, Netlist, noGate, gateAt}
 use Rattle.netlist.specs.WellFormed.{Below, PinsBelow}
-use Rattle.netlist.specs.Live.{count, isLive, withGate, liveReadsFrom, liveReads, readers, liveAmong, Live, output-reads, gate-reads, Depends, reads, reads-further}
+use Rattle.netlist.specs.Live.{count, isLive, withGate, liveReadsFrom, liveReads, readers, liveAmong}
+use Rattle.netlist.specs.Live.{Live, output-reads, gate-reads, Depends, reads, reads-further}
 use Rattle.netlist.specs.Average.{sumBelow}
 use Rattle.netlist.proofs.Each.{AllFrom, all-head, all-tail, pinsBelow}
 use Rattle.netlist.proofs.Count.{count-append, count-below, below-count}
@@ -100,7 +101,11 @@ reads-sum t outputs s (g ∷ gs) below =
 
 sum-term : (k : ℕ) (F : ℕ → ℕ) (j : ℕ) → j < k → F j ≤ sumBelow k F
 sum-term zero F j l = absurd (omega arith)
-sum-term (suc k) F j l = ⊎-elim (λ q. subst (λ (i : ℕ). F i ≤ sumBelow (suc k) F) (sym q) (omega arith)) (λ m. omega (arith, sum-term k F j m)) (eq-or-lt-of-le (le-of-suc-le-suc l))
+sum-term (suc k) F j l =
+    ⊎-elim
+    (λ q. subst (λ (i : ℕ). F i ≤ sumBelow (suc k) F) (sym q) (omega arith))
+    (λ m. omega (arith, sum-term k F j m))
+    (eq-or-lt-of-le (le-of-suc-le-suc l))
 
 sum-some : (k : ℕ) (F : ℕ → ℕ) → 0 < sumBelow k F → (j : ℕ) × (j < k) × (0 < F j)
 sum-some zero F h = absurd (omega arith)
