@@ -46,7 +46,7 @@ module _ (u d : ℕ) (net : Netlist) (below : PinsBelow net) (q : ℕ) where
   pub failures-length : length (failures u d net q) ≡ net .inputs + length (net .gates)
   failures-length = failures-solve .size
 
-  -- inputs never fail
+  -- an input's failure is 0
   pub failure-input : (i : ℕ) → i < net .inputs → getD (failures u d net q) i 0 ≡ 0
   failure-input i l = sym (failures-solve .start i l) ∙ getD-replicate (net .inputs) i 0 0 l
 

@@ -1,5 +1,5 @@
--- The counts of live reads meet document 01's sentences: a gate is live if an output or a live gate reads it; readers are counted by live gate's pin and
--- by output. Assumes nothing.
+-- The counts of live reads meet document 01's sentences: a source has a live reader exactly if it is live, and its readers are the outputs that read it
+-- and the pins of live gates that do. Assumes nothing.
 use Prim.Native.Nat.{ℕ, zero, suc, _+_, _≤_, _<_}
 use mathlib.Core.Bool.{cond}
 use mathlib.Core.List.{List, [], _∷_, _++_}
@@ -124,14 +124,14 @@ live-if zero k h = absurd (omega arith)
 live-if (suc r) k h = refl
 
 module _ (net : Netlist) (below : PinsBelow net) where
-  -- readers are counted by live gate's pin and by output
+  -- readers are outputs and pins of live gates, each counted
   pub readers-are : (s : ℕ)
       → readers net s
       ≡ count s (net .outputs) + sumBelow (length (net .gates)) (λ j. ifLive (readers net (net .inputs + j)) (count s (gateAt net j .pins)))
   unfolding readers liveReads
   readers-are s = reads-sum s (net .outputs) (net .inputs) (net .gates) below
 
-  -- a gate is live if an output or a live gate reads it: it has a live reader exactly then
+  -- what is live has a live reader, and what has one is live
   pub live-readers : {s : ℕ} → Live net s → 0 < readers net s
   live-readers {s} (output-reads h) = omega (arith, readers-are s)
   live-readers {s} (gate-reads j l live h) =

@@ -1,5 +1,5 @@
 -- Live gates and readers of document 01, "The figures", as counts of one multiset: the reads by outputs and by pins of live gates.
--- proofs/Live.antt shows that these counts meet the document's own sentences.
+-- `Live` and `Depends` below are the document's sentences; proofs/Live.antt shows that the counts meet them.
 use Prim.Native.Nat.{ℕ, zero, suc, _+_, _≤_, _<_}
 use mathlib.Core.Bool.{Bool, true, false, cond}
 use mathlib.Core.List.{List, [], _∷_, _++_}
@@ -56,12 +56,12 @@ firstSharedFrom rs s (suc k) = cond (leb 2 (count s rs)) 0 (suc (firstSharedFrom
 unfoldable pub firstShared : Netlist → ℕ
 firstShared net = firstSharedFrom (liveReads net) (net .inputs) (length (net .gates))
 
--- the document's own sentence: a gate is live if an output or a live gate reads it
+-- live, as document 01 has it: read by an output, or by a gate that is live itself
 pub data Live (net : Netlist) : ℕ → Type 0 where
   output-reads : {s : ℕ} → 0 < count s (net .outputs) → Live net s
   gate-reads : {s : ℕ} (j : ℕ) → j < length (net .gates) → Live net (net .inputs + j) → 0 < count s (gateAt net j .pins) → Live net s
 
--- and its other: a gate depends on the inputs and gates that it reads, and on all that those depend on
+-- dependence, as document 01 has it: on what a gate reads, and on whatever that depends on
 pub data Depends (net : Netlist) : ℕ → ℕ → Type 0 where
   reads : {t : ℕ} (j : ℕ) → j < length (net .gates) → 0 < count t (gateAt net j .pins) → Depends net (net .inputs + j) t
   reads-further : {t : ℕ} (j r : ℕ) → j < length (net .gates) → 0 < count r (gateAt net j .pins) → Depends net r t → Depends net (net .inputs + j) t

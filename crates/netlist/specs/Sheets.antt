@@ -44,7 +44,7 @@ sureBuffers = record { inputs = 1; gates = buffer 0 chanceOne ∷ buffer 1 chanc
 abbrev pub noGates : Netlist
 noGates = record { inputs = 1; gates = []; outputs = 0 ∷ [] }
 
--- one gate on both pins of an AND; one input on both pins; a live gate that one live and one dead gate read
+-- both pins of an AND on one gate; both on one input; a gate with one live and one dead reader
 abbrev pub gateTwice : Netlist
 gateTwice = record { inputs = 1; gates = buffer 0 chanceHalf ∷ andNever 1 1 ∷ []; outputs = 2 ∷ [] }
 
@@ -54,7 +54,7 @@ inputTwice = record { inputs = 1; gates = andNever 0 0 ∷ []; outputs = 1 ∷ [
 abbrev pub deadReader : Netlist
 deadReader = record { inputs = 1; gates = buffer 0 chanceHalf ∷ buffer 1 chanceHalf ∷ buffer 1 chanceHalf ∷ []; outputs = 2 ∷ [] }
 
--- a buffer at 0.5 on two outputs
+-- two outputs on one buffer
 abbrev pub shared : Netlist
 shared = record { inputs = 1; gates = buffer 0 chanceHalf ∷ []; outputs = 1 ∷ 1 ∷ [] }
 
