@@ -1,3 +1,7 @@
 pub mod Netlist
+pub mod WellFormed
 pub mod Exact
 pub mod Figures
+pub mod Live
+pub mod Average
+pub mod Sheets

@@ -18,6 +18,13 @@ pub record Netlist : Type 0 where
   pub gates : List Gate
   pub outputs : List ℕ
 
+-- gate j; past the last gate, one that reads nothing and never flips
+abbrev pub noGate : Gate
+noGate = record { pins = []; table = 0; kind = 0; chance = 0 }
+
+abbrev pub gateAt : Netlist → ℕ → Gate
+gateAt net j = getD (net .gates) j noGate
+
 -- the values of n inputs under pattern q: bit i is input i
 abbrev pub inputValues : ℕ → ℕ → List Bool
 inputValues zero q = []

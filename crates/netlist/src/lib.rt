@@ -1,1 +1,1 @@
-// Definitions only: the netlist, its values under flips, the exact sum, its figures and its live gates stand in specs/.
+// No code: the netlist, its values under flips, the exact sum, its figures and its live gates are defined in specs/, their laws proved in proofs/.

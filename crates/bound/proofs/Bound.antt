@@ -1,0 +1,214 @@
+-- The bound for every size: the reliability in units is within the charges of u times the exact sum. Assumes nothing.
+use Prim.Native.Nat.{ℕ, zero, suc, _+_, _-_, _*_, _^_, _≤_, _<_}
+use mathlib.Core.Bool.{Bool, false}
+use mathlib.Core.List.{map}
+use mathlib.Core.Path.{_≡_, refl, sym, ap, ap₂, _∙_}
+use mathlib.Core.Logic.{by-cases}
+use native.Mathlib.Nat.{pow-zero, pow-succ', mul-pos, mul-zero, one-le-pow, mul-le-mul-right}
+use native.Mathlib.Decide.{decLe}
+use native.Mathlib.Omega.{arith}
+use lib.ListN.{length, getD, length-map, List·getD-eq-default}
+use lib.Dec.{leb}
+use lib.Pow.{pow-add}
+use borrow.Author.Tests.{leb-false}
+use Rattle.rounding.specs.Rounding.{toUnits}
+use Rattle.rounding.proofs.Laws.{Near}
+use Rattle.figure.specs.Figure.{difference, gateStep, gateFailure}
+use Rattle.figure.proofs.Fold.{foldOver}
+use Rattle.netlist.specs.Netlist.{Gate, Netlist, gateAt, inputValues, pinValues, rightValues}
+use Rattle.netlist.specs.WellFormed.{WellFormed}
+use Rattle.netlist.specs.Exact.{exactSum}
+use Rattle.netlist.specs.Figures.{pinFailures, failures, reliability}
+use Rattle.netlist.specs.Live.{count, liveReadsFrom, liveReads, readers, liveGates, SingleReaders}
+use Rattle.netlist.proofs.Values.{inputs-length, input-value, right-input, right-gate}
+use Rattle.netlist.proofs.Failures.{failures-length, failure-input, failure-gate, failures-at-most, start-fold}
+use Rattle.netlist.proofs.Each.{AllFrom}
+use Rattle.netlist.proofs.Live.{count-outputs}
+use Rattle.bound.proofs.Near.{near-at, near-trans, near-cancel, near-weaken}
+use Rattle.bound.proofs.Mix.{mix, mix-sure}
+use Rattle.bound.proofs.Bits.{foldBits, Once}
+use Rattle.bound.proofs.Replace.{charges, sumFrom, Local, replace-all, replace-outputs}
+use Rattle.bound.proofs.Rounded.{failing, right-weight, wrong-weight, weights-sum}
+use Rattle.bound.proofs.Local.{right-at-most, outputs-near, gate-near}
+use Rattle.bound.proofs.Charge.{charge-total, live-total, one-each}
+use Rattle.bound.proofs.Weights.{ifRight, rightGiven, wrongGiven, given-sum}
+use Rattle.bound.proofs.Literal.{literal}
+
+mul-pow : (a b k : ℕ) → (a * b) ^ k ≡ a ^ k * b ^ k
+mul-pow a b zero = omega (arith, pow-zero (a * b), pow-zero a, pow-zero b, ap₂ _*_ (pow-zero a) (pow-zero b))
+mul-pow a b (suc k) =
+    pow-succ' (a * b) k
+    ∙ ap (λ (z : ℕ). a * b * z) (mul-pow a b k)
+    ∙ omega arith
+    ∙ sym (ap₂ _*_ (pow-succ' a k) (pow-succ' b k))
+
+module _ (u d : ℕ) (posu : 0 < u) (posd : 0 < d) (net : Netlist) (well : WellFormed d net) (q : ℕ) where
+  -- the bit of a source: wrong with its rounded failure
+  abbrev f : ℕ → ℕ
+  f s = getD (failures u d net q) s 0
+
+  f-most : (s : ℕ) → f s ≤ u
+  f-most s = failures-at-most u d posu posd net well q s
+
+  abbrev r : ℕ → ℕ
+  r = right-weight u d f
+
+  abbrev w : ℕ → ℕ
+  w = wrong-weight u d f
+
+  sums : (s : ℕ) → r s + w s ≡ u * d
+  sums = weights-sum u d f f-most
+
+  pos : 0 < u * d
+  pos = mul-pos posu posd
+
+  -- the sum over errors, from errors of the inputs
+  abbrev errorSum : (ℕ → Bool) → ℕ
+  errorSum = sumFrom (net .outputs) (ifRight 1) (rightGiven u d (rightValues net q)) (wrongGiven u d (rightValues net q)) (net .inputs) (net .gates)
+
+  -- the exact sum is that of inputs without errors
+  exact-is : u ^ length (net .gates) * exactSum d net q ≡ errorSum (λ t. false)
+  unfolding exactSum
+  exact-is =
+      literal
+      u
+      d
+      (net .outputs)
+      (rightValues net q)
+      (net .inputs)
+      (net .gates)
+      (inputValues (net .inputs) q)
+      (λ t. false)
+      (inputs-length (net .inputs) q)
+      (λ i l. input-value (net .inputs) q i l ∙ sym (right-input net (well .pins-below) q i l))
+      (well .pins-below)
+      (well .chances)
+      (right-gate net (well .pins-below) q)
+      (well .outputs-below)
+
+  module _ (single : SingleReaders net) where
+    -- a source that may be wrong is a gate, and read once
+    once : Once w (liveReadsFrom (net .outputs) (net .inputs) (net .gates))
+    unfolding SingleReaders readers liveReads
+    once p h =
+        by-cases
+        (decLe (net .inputs) p)
+        (λ l. by-cases (decLe (net .inputs + length (net .gates)) p) (λ k. absurd (outside k)) (λ k. inside l (omega arith)))
+        (λ l. absurd (omega (arith, ap (λ (z : ℕ). d * z) (failure-input u d net (well .pins-below) q p (omega arith)))))
+      where
+        outside : net .inputs + length (net .gates) ≤ p → ⊥
+        outside k =
+            let ends : length (failures u d net q) ≤ p = omega (arith, failures-length u d net (well .pins-below) q) in
+            omega (arith, ap (λ (z : ℕ). d * z) (List·getD-eq-default (failures u d net q) 0 ends))
+
+        inside : net .inputs ≤ p → p < net .inputs + length (net .gates) → count p (liveReadsFrom (net .outputs) (net .inputs) (net .gates)) ≤ 1
+        inside l k =
+            let at : net .inputs + (p - net .inputs) ≡ p = omega arith in
+            omega (arith, single (p - net .inputs) (omega arith), ap (λ (t : ℕ). count t (liveReadsFrom (net .outputs) (net .inputs) (net .gates))) at)
+
+    -- any charges that each gate and the outputs keep by themselves
+    pub charged-bound : (charge : Gate → ℕ) (out : ℕ)
+        → AllFrom (Local u (u * d) r w (wrongGiven u d (rightValues net q)) charge) (net .inputs) (net .gates)
+        → Near
+        (out * (u * d) ^ length (net .outputs))
+        (2 * (reliability u d net q * (u * d) ^ length (net .outputs)))
+        (2 * (u * foldBits r w (net .outputs) (ifRight 1)))
+        → Near
+        ((charges (net .outputs) charge (net .inputs) (net .gates) + out) * d ^ length (net .gates))
+        (2 * (reliability u d net q * d ^ length (net .gates)))
+        (2 * (u * exactSum d net q))
+    charged-bound charge out gates outs =
+        let n = net .inputs in
+        let G = length (net .gates) in
+        let rs = rightValues net q in
+        let rel = reliability u d net q in
+        let c = charges (net .outputs) charge n (net .gates) in
+        let all : ℕ = mix r w (n + G) (λ e. ifRight 1 (map e (net .outputs))) in
+        let M : ℕ = (u * d) ^ (n + G) in
+        let K : ℕ = (u * d) ^ n * u ^ G in
+        let outputs-once : Once w (net .outputs) = λ p h. omega (arith, once p h, count-outputs p (net .outputs) n (net .gates)) in
+        let last : Near (out * M) (2 * (rel * M)) (2 * (u * all))
+        = replace-outputs r w (u * d) sums pos u (n + G) out rel (net .outputs) (ifRight 1) (well .outputs-below) outputs-once outs in
+        let first : Near (c * M) (2 * (u * all)) (2 * (u * mix r w n errorSum))
+        = replace-all
+        (net .outputs)
+        (ifRight 1)
+        (rightGiven u d rs)
+        (wrongGiven u d rs)
+        (u * d)
+        (given-sum u d rs)
+        r
+        w
+        sums
+        pos
+        u
+        right-at-most
+        charge
+        n
+        (net .gates)
+        (n + G)
+        refl
+        (well .pins-below)
+        gates
+        once in
+        let scale : M ≡ K * d ^ G = pow-add (u * d) n G ∙ ap (λ (z : ℕ). (u * d) ^ n * z) (mul-pow u d G) ∙ omega arith in
+        let sure : (t : ℕ) → t < n → w t ≡ 0 = λ t l. ap (λ (z : ℕ). d * z) (failure-input u d net (well .pins-below) q t l) ∙ mul-zero d in
+        let start : mix r w n errorSum ≡ K * exactSum d net q
+        = mix-sure r w (u * d) sums n sure errorSum ∙ ap (λ (z : ℕ). (u * d) ^ n * z) (sym exact-is) ∙ omega arith in
+        let e : out * M + c * M ≡ K * ((c + out) * d ^ G) = ap (λ (z : ℕ). out * z + c * z) scale ∙ omega arith in
+        let a : 2 * (rel * M) ≡ K * (2 * (rel * d ^ G)) = ap (λ (z : ℕ). 2 * (rel * z)) scale ∙ omega arith in
+        let b : 2 * (u * mix r w n errorSum) ≡ K * (2 * (u * exactSum d net q)) = ap (λ (z : ℕ). 2 * (u * z)) start ∙ omega arith in
+        near-cancel
+        K
+        ((c + out) * d ^ G)
+        (2 * (rel * d ^ G))
+        (2 * (u * exactSum d net q))
+        (mul-pos (one-le-pow n (u * d) pos) (one-le-pow G u posu))
+        (near-at e a b (near-trans last first))
+
+    -- a source that may fail is a gate
+    abbrev isGate : ℕ → Bool
+    isGate s = leb (net .inputs) s
+
+    never : (s : ℕ) → isGate s ≡ false → f s ≡ 0
+    never s e = failure-input u d net (well .pins-below) q s (leb-false (net .inputs) s e)
+
+    -- two half units for a gate, one for each pin or output that reads a gate
+    abbrev charge : Gate → ℕ
+    charge g = 2 + failing isGate (g .pins)
+
+    gates-near : AllFrom (Local u (u * d) r w (wrongGiven u d (rightValues net q)) charge) (net .inputs) (net .gates)
+    unfolding gateFailure
+    gates-near j l =
+        let g = gateAt net j in
+        let vs = rightValues net q in
+        let fs = failures u d net q in
+        let same : length (pinValues vs (g .pins)) ≡ length (pinFailures fs (g .pins))
+        = length-map (g .pins) (λ (p : ℕ). getD vs p false) ∙ sym (length-map (g .pins) f) in
+        let p = toUnits u d (g .chance) in
+        let figure : f (net .inputs + j) ≡ gateStep u (foldOver u (map f (g .pins)) (difference u (g .table) (pinValues vs (g .pins)))) p
+        = failure-gate u d net (well .pins-below) q j l
+        ∙ ap (λ (m : ℕ). gateStep u m p) (start-fold u (g .table) (pinValues vs (g .pins)) (pinFailures fs (g .pins)) same) in
+        near-at
+        refl
+        (ap (λ (z : ℕ). 2 * (u * ((u * d) ^ length (g .pins) * (d * z)))) (sym figure))
+        refl
+        (gate-near u d posu posd fs f-most isGate never vs g (well .chances j l))
+
+    -- three half units for each live gate
+    pub bound : Near
+        (3 * liveGates net * d ^ length (net .gates))
+        (2 * (reliability u d net q * d ^ length (net .gates)))
+        (2 * (u * exactSum d net q))
+    unfolding reliability liveGates liveReads SingleReaders readers
+    bound =
+        let total : charges (net .outputs) charge (net .inputs) (net .gates) + failing isGate (net .outputs) ≤ 3 * liveGates net
+        = omega (
+          arith,
+          charge-total isGate (net .outputs) (net .inputs) (net .gates),
+          live-total (net .outputs) (net .inputs) (net .gates) (well .pins-below),
+          one-each (net .outputs) (net .inputs) (net .gates) (well .pins-below) (well .outputs-below) single,
+        ) in
+        near-weaken
+        (mul-le-mul-right (d ^ length (net .gates)) total)
+        (charged-bound charge (failing isGate (net .outputs)) gates-near (outputs-near u d posu posd (failures u d net q) f-most isGate never (net .outputs)))

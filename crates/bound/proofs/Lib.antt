@@ -1,0 +1,12 @@
+pub mod Near
+pub mod Mix
+pub mod Bits
+pub mod Replace
+pub mod Rounded
+pub mod Local
+pub mod Charge
+pub mod Weights
+pub mod Literal
+pub mod Bound
+pub mod Average
+pub mod Examples

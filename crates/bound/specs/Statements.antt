@@ -1,0 +1,31 @@
+-- What is promised of every netlist that refusals 5 to 9 leave, of any size, for any number u of units in one and any denominator d of the chances:
+-- document 01, "The list and the book", with every denominator multiplied out and distances in half units. proofs/Bound.antt and proofs/Average.antt prove it.
+use Prim.Native.Nat.{ℕ, _+_, _*_, _^_, _<_}
+use mathlib.Core.List.{List}
+use lib.ListN.{length}
+use Rattle.rounding.proofs.Laws.{Near}
+use Rattle.netlist.specs.Netlist.{Netlist}
+use Rattle.netlist.specs.WellFormed.{WellFormed}
+use Rattle.netlist.specs.Exact.{exactSum}
+use Rattle.netlist.specs.Figures.{reliability}
+use Rattle.netlist.specs.Live.{liveGates, SingleReaders}
+use Rattle.netlist.specs.Average.{totalWeight, exactAverageSum, averageUnits}
+
+-- the denominator of the exact sum: d for each gate
+abbrev pub denominator : ℕ → Netlist → ℕ
+denominator d net = d ^ length (net .gates)
+
+-- the reliability of a pattern is at most 1.5 units for each live gate away from u times the exact sum
+abbrev pub ReliabilityBound : Type 0
+ReliabilityBound =
+    (u d : ℕ) → 0 < u → 0 < d → (net : Netlist) → WellFormed d net → SingleReaders net → (q : ℕ)
+    → Near (3 * liveGates net * denominator d net) (2 * (reliability u d net q * denominator d net)) (2 * (u * exactSum d net q))
+
+-- the average in units is at most half a unit more away from u times the exact average
+abbrev pub AverageBound : Type 0
+AverageBound =
+    (u d : ℕ) → 0 < u → 0 < d → (net : Netlist) → WellFormed d net → SingleReaders net → (weights : List ℕ) → 0 < totalWeight net weights
+    → Near
+    ((3 * liveGates net + 1) * totalWeight net weights * denominator d net)
+    (2 * (averageUnits u d net weights * totalWeight net weights * denominator d net))
+    (2 * (u * exactAverageSum d net weights))

@@ -1,0 +1,176 @@
+-- The counts of live reads meet document 01's sentences: a source has a live reader exactly if it is live, and its readers are the outputs that read it
+-- and the pins of live gates that do. Assumes nothing.
+use Prim.Native.Nat.{ℕ, zero, suc, _+_, _≤_, _<_}
+use mathlib.Core.Bool.{cond}
+use mathlib.Core.List.{List, [], _∷_, _++_}
+use mathlib.Core.Path.{_≡_, refl, sym, ap, ap₂, subst, _∙_}
+use mathlib.Core.Logic.{_⊎_, inl, inr, ⊎-elim}
+use native.Mathlib.Nat.{le-refl, add-zero, eq-zero-or-pos, eq-or-lt-of-le, le-of-suc-le-suc}
+use native.Mathlib.Omega.{arith}
+use lib.ListN.{length, getD, drop}
+use lib.Seq.{drop-cons}
+use Rattle.figure.specs.Figure.{bitOf}
+use Rattle.netlist.specs.Netlist.{Gate, Netlist, noGate, gateAt}
+use Rattle.netlist.specs.WellFormed.{Below, PinsBelow}
+use Rattle.netlist.specs.Live.{count, isLive, withGate, liveReadsFrom, liveReads, readers, liveAmong}
+use Rattle.netlist.specs.Live.{Live, output-reads, gate-reads, Depends, reads, reads-further}
+use Rattle.netlist.specs.Average.{sumBelow}
+use Rattle.netlist.proofs.Each.{AllFrom, all-head, all-tail, pinsBelow}
+use Rattle.netlist.proofs.Count.{count-append, count-below, below-count}
+
+-- what a gate with so many live readers adds: nothing if it is dead
+abbrev pub ifLive : ℕ → ℕ → ℕ
+ifLive r k = cond (isLive r) k 0
+
+pub count-with : (t s : ℕ) (ps rs : List ℕ) → count t (withGate s ps rs) ≡ ifLive (count s rs) (count t ps) + count t rs
+count-with t s ps rs = go (count s rs)
+  where
+    go : (c : ℕ) → count t (cond (isLive c) (ps ++ rs) rs) ≡ ifLive c (count t ps) + count t rs
+    go zero = omega arith
+    go (suc c) = count-append t ps rs
+
+-- a gate adds no read of itself or a later gate
+pub count-later : (t s : ℕ) (ps rs : List ℕ) → Below s ps → s ≤ t → count t (withGate s ps rs) ≡ count t rs
+count-later t s ps rs below l = count-with t s ps rs ∙ go (count s rs)
+  where
+    go : (c : ℕ) → ifLive c (count t ps) + count t rs ≡ count t rs
+    go zero = omega arith
+    go (suc c) = omega (arith, count-below s t l ps below)
+
+-- no gate takes a read away
+pub count-more : (t s : ℕ) (ps rs : List ℕ) → count t rs ≤ count t (withGate s ps rs)
+count-more t s ps rs = omega (arith, count-with t s ps rs)
+
+pub count-outputs : (t : ℕ) (outputs : List ℕ) (s : ℕ) (gs : List Gate) → count t outputs ≤ count t (liveReadsFrom outputs s gs)
+count-outputs t outputs s [] = le-refl (count t outputs)
+count-outputs t outputs s (g ∷ gs) =
+    omega (arith, count-outputs t outputs (suc s) gs, count-more t s (g .pins) (liveReadsFrom outputs (suc s) gs))
+
+-- how many are live, one gate more
+among-same : (xs ys : List ℕ) (k s : ℕ) → ((t : ℕ) → s ≤ t → count t xs ≡ count t ys) → liveAmong xs s k ≡ liveAmong ys s k
+among-same xs ys zero s h = refl
+among-same xs ys (suc k) s h =
+    ap₂ _+_ (ap (λ (c : ℕ). bitOf (isLive c)) (h s (le-refl s))) (among-same xs ys k (suc s) (λ t l. h t (omega arith)))
+
+pub among-step : (s k : ℕ) (ps rs : List ℕ) → Below s ps
+    → liveAmong (withGate s ps rs) s (suc k) ≡ bitOf (isLive (count s rs)) + liveAmong rs (suc s) k
+among-step s k ps rs below =
+    ap₂
+    _+_
+    (ap (λ (c : ℕ). bitOf (isLive c)) (count-later s s ps rs below (le-refl s)))
+    (among-same (withGate s ps rs) rs k (suc s) (λ t l. count-later t s ps rs below (omega arith)))
+
+-- the live reads by gate j and what follows it
+pub reads-from : (net : Netlist) (j : ℕ) → j < length (net .gates)
+    → liveReadsFrom (net .outputs) (net .inputs + j) (drop j (net .gates))
+    ≡ withGate (net .inputs + j) (gateAt net j .pins) (liveReadsFrom (net .outputs) (suc (net .inputs + j)) (drop (suc j) (net .gates)))
+reads-from net j l = ap (liveReadsFrom (net .outputs) (net .inputs + j)) (drop-cons (net .gates) j noGate l)
+
+pub sum-first : (k : ℕ) (F : ℕ → ℕ) → sumBelow (suc k) F ≡ F 0 + sumBelow k (λ j. F (suc j))
+sum-first zero F = omega arith
+sum-first (suc k) F = omega (arith, sum-first k F)
+
+pub sum-same : (k : ℕ) (F H : ℕ → ℕ) → ((j : ℕ) → j < k → F j ≡ H j) → sumBelow k F ≡ sumBelow k H
+sum-same zero F H h = refl
+sum-same (suc k) F H h = ap₂ _+_ (sum-same k F H (λ j l. h j (omega arith))) (h k (omega arith))
+
+-- the reads by the pins of live gates, added up
+reads-sum : (t : ℕ) (outputs : List ℕ) (s : ℕ) (gs : List Gate) → AllFrom pinsBelow s gs
+    → count t (liveReadsFrom outputs s gs)
+    ≡ count t outputs + sumBelow (length gs) (λ j. ifLive (count (s + j) (liveReadsFrom outputs s gs)) (count t (getD gs j noGate .pins)))
+reads-sum t outputs s [] below = sym (add-zero (count t outputs))
+reads-sum t outputs s (g ∷ gs) below =
+    let later = liveReadsFrom outputs (suc s) gs in
+    let all = withGate s (g .pins) later in
+    let F : ℕ → ℕ = λ j. ifLive (count (s + j) all) (count t (getD (g ∷ gs) j noGate .pins)) in
+    let H : ℕ → ℕ = λ j. ifLive (count (suc s + j) later) (count t (getD gs j noGate .pins)) in
+    let pins = all-head pinsBelow s g gs below in
+    let first : F 0 ≡ ifLive (count s later) (count t (g .pins))
+    = ap (λ (k : ℕ). ifLive (count k all) (count t (g .pins))) (add-zero s)
+    ∙ ap (λ (k : ℕ). ifLive k (count t (g .pins))) (count-later s s (g .pins) later pins (le-refl s)) in
+    let others : sumBelow (length gs) (λ j. F (suc j)) ≡ sumBelow (length gs) H
+    = sum-same (length gs) _ _ (λ j l.
+    ap (λ (k : ℕ). ifLive (count k all) (count t (getD gs j noGate .pins))) (omega arith)
+    ∙ ap (λ (k : ℕ). ifLive k (count t (getD gs j noGate .pins))) (count-later (suc s + j) s (g .pins) later pins (omega arith))) in
+    omega (
+      arith,
+      count-with t s (g .pins) later,
+      reads-sum t outputs (suc s) gs (all-tail pinsBelow s g gs below),
+      sum-first (length gs) F,
+    )
+
+sum-term : (k : ℕ) (F : ℕ → ℕ) (j : ℕ) → j < k → F j ≤ sumBelow k F
+sum-term zero F j l = absurd (omega arith)
+sum-term (suc k) F j l =
+    ⊎-elim
+    (λ q. subst (λ (i : ℕ). F i ≤ sumBelow (suc k) F) (sym q) (omega arith))
+    (λ m. omega (arith, sum-term k F j m))
+    (eq-or-lt-of-le (le-of-suc-le-suc l))
+
+sum-some : (k : ℕ) (F : ℕ → ℕ) → 0 < sumBelow k F → (j : ℕ) × (j < k) × (0 < F j)
+sum-some zero F h = absurd (omega arith)
+sum-some (suc k) F h =
+    ⊎-elim
+    (λ z. let w = sum-some k F (omega arith) in (w .0, omega (arith, w .1), w .2))
+    (λ p. (k, omega arith, p))
+    (eq-zero-or-pos (F k))
+
+if-live : (r k : ℕ) → 0 < ifLive r k → (0 < r) × (0 < k)
+if-live zero k h = absurd (omega arith)
+if-live (suc r) k h = (omega arith, h)
+
+live-if : (r k : ℕ) → 0 < r → ifLive r k ≡ k
+live-if zero k h = absurd (omega arith)
+live-if (suc r) k h = refl
+
+module _ (net : Netlist) (below : PinsBelow net) where
+  -- readers are outputs and pins of live gates, each counted
+  pub readers-are : (s : ℕ)
+      → readers net s
+      ≡ count s (net .outputs) + sumBelow (length (net .gates)) (λ j. ifLive (readers net (net .inputs + j)) (count s (gateAt net j .pins)))
+  unfolding readers liveReads
+  readers-are s = reads-sum s (net .outputs) (net .inputs) (net .gates) below
+
+  -- what is live has a live reader, and what has one is live
+  pub live-readers : {s : ℕ} → Live net s → 0 < readers net s
+  live-readers {s} (output-reads h) = omega (arith, readers-are s)
+  live-readers {s} (gate-reads j l live h) =
+      let F : ℕ → ℕ = λ j. ifLive (readers net (net .inputs + j)) (count s (gateAt net j .pins)) in
+      omega (arith, readers-are s, sum-term (length (net .gates)) F j l, live-if (readers net (net .inputs + j)) (count s (gateAt net j .pins)) (live-readers live))
+
+  some-reader : (s : ℕ) → 0 < readers net s
+      → (0 < count s (net .outputs))
+      ⊎ ((j : ℕ) × (j < length (net .gates)) × (0 < readers net (net .inputs + j)) × (0 < count s (gateAt net j .pins)))
+  some-reader s h =
+      let F : ℕ → ℕ = λ j. ifLive (readers net (net .inputs + j)) (count s (gateAt net j .pins)) in
+      ⊎-elim
+      (λ z.
+      let w = sum-some (length (net .gates)) F (omega (arith, readers-are s)) in
+      let both = if-live (readers net (net .inputs + w .0)) (count s (gateAt net (w .0) .pins)) (w .2) in
+      inr (w .0, w .1, both .0, both .1))
+      inl
+      (eq-zero-or-pos (count s (net .outputs)))
+
+  -- a reader is a later source, so the way to an output ends
+  readers-fuel : (k s : ℕ) → net .inputs + length (net .gates) ≤ s + k → 0 < readers net s → Live net s
+  readers-fuel zero s fuel h =
+      ⊎-elim
+      output-reads
+      (λ w. absurd (omega (arith, w .1, below-count (net .inputs + w .0) s (gateAt net (w .0) .pins) (below (w .0) (w .1)) (w .3))))
+      (some-reader s h)
+  readers-fuel (suc k) s fuel h =
+      ⊎-elim
+      output-reads
+      (λ w.
+      let later = below-count (net .inputs + w .0) s (gateAt net (w .0) .pins) (below (w .0) (w .1)) (w .3) in
+      gate-reads (w .0) (w .1) (readers-fuel k (net .inputs + w .0) (omega arith) (w .2)) (w .3))
+      (some-reader s h)
+
+  pub readers-live : (s : ℕ) → 0 < readers net s → Live net s
+  readers-live s h = readers-fuel (net .inputs + length (net .gates)) s (omega arith) h
+
+  -- a gate depends only on earlier sources
+  pub depends-earlier : {s t : ℕ} → Depends net s t → t < s
+  depends-earlier (reads {t = t} j l h) = below-count (net .inputs + j) t (gateAt net j .pins) (below j l) h
+  depends-earlier (reads-further j r l h more) =
+      omega (arith, depends-earlier more, below-count (net .inputs + j) r (gateAt net j .pins) (below j l) h)

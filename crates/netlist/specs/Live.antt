@@ -1,0 +1,67 @@
+-- Live gates and readers of document 01, "The figures", as counts of one multiset: the reads by outputs and by pins of live gates.
+-- `Live` and `Depends` below are the document's sentences; proofs/Live.antt shows that the counts meet them.
+use Prim.Native.Nat.{ℕ, zero, suc, _+_, _≤_, _<_}
+use mathlib.Core.Bool.{Bool, true, false, cond}
+use mathlib.Core.List.{List, [], _∷_, _++_}
+use lib.ListN.{length}
+use lib.Dec.{eqb, leb}
+use Rattle.figure.specs.Figure.{bitOf}
+use Rattle.netlist.specs.Netlist.{Gate, Netlist, gateAt}
+
+-- how often s stands in a list of reads
+abbrev pub count : ℕ → List ℕ → ℕ
+count s [] = 0
+count s (r ∷ rs) = bitOf (eqb s r) + count s rs
+
+-- a gate with so many live readers is live if there is one
+abbrev pub isLive : ℕ → Bool
+isLive zero = false
+isLive (suc readers) = true
+
+-- the reads rs, with those by the pins of the gate at source s if rs has a read of it
+abbrev pub withGate : ℕ → List ℕ → List ℕ → List ℕ
+withGate s pins rs = cond (isLive (count s rs)) (pins ++ rs) rs
+
+-- the reads by outputs and by the live ones of these gates, the first of which is source s: later gates first, for a gate's readers come after it
+abbrev pub liveReadsFrom : List ℕ → ℕ → List Gate → List ℕ
+liveReadsFrom outputs s [] = outputs
+liveReadsFrom outputs s (g ∷ gs) = withGate s (g .pins) (liveReadsFrom outputs (suc s) gs)
+
+unfoldable pub liveReads : Netlist → List ℕ
+liveReads net = liveReadsFrom (net .outputs) (net .inputs) (net .gates)
+
+-- the live readers of a source
+unfoldable pub readers : Netlist → ℕ → ℕ
+readers net s = count s (liveReads net)
+
+-- how many of the k sources from s on stand in rs
+abbrev pub liveAmong : List ℕ → ℕ → ℕ → ℕ
+liveAmong rs s zero = 0
+liveAmong rs s (suc k) = bitOf (isLive (count s rs)) + liveAmong rs (suc s) k
+
+-- L of document 01: the number of live gates
+unfoldable pub liveGates : Netlist → ℕ
+liveGates net = liveAmong (liveReads net) (net .inputs) (length (net .gates))
+
+-- refusal 9 does not apply: no gate has two live readers
+unfoldable pub SingleReaders : Netlist → Type 0
+SingleReaders net = (j : ℕ) → j < length (net .gates) → readers net (net .inputs + j) ≤ 1
+
+-- the lowest of k gates, the first of which is source s, that rs reads twice or more; k if there is none
+abbrev pub firstSharedFrom : List ℕ → ℕ → ℕ → ℕ
+firstSharedFrom rs s zero = 0
+firstSharedFrom rs s (suc k) = cond (leb 2 (count s rs)) 0 (suc (firstSharedFrom rs (suc s) k))
+
+-- the place of refusal 9: the lowest gate with two live readers; the number of gates if there is none
+unfoldable pub firstShared : Netlist → ℕ
+firstShared net = firstSharedFrom (liveReads net) (net .inputs) (length (net .gates))
+
+-- live, as document 01 has it: read by an output, or by a gate that is live itself
+pub data Live (net : Netlist) : ℕ → Type 0 where
+  output-reads : {s : ℕ} → 0 < count s (net .outputs) → Live net s
+  gate-reads : {s : ℕ} (j : ℕ) → j < length (net .gates) → Live net (net .inputs + j) → 0 < count s (gateAt net j .pins) → Live net s
+
+-- dependence, as document 01 has it: on what a gate reads, and on whatever that depends on
+pub data Depends (net : Netlist) : ℕ → ℕ → Type 0 where
+  reads : {t : ℕ} (j : ℕ) → j < length (net .gates) → 0 < count t (gateAt net j .pins) → Depends net (net .inputs + j) t
+  reads-further : {t : ℕ} (j r : ℕ) → j < length (net .gates) → 0 < count r (gateAt net j .pins) → Depends net r t → Depends net (net .inputs + j) t

@@ -1,0 +1,19 @@
+-- What the exact sum and the error bound ask of a netlist; refusals 6, 7 and 8 of document 01 see to it.
+use Prim.Native.Nat.{ℕ, _+_, _≤_, _<_}
+use mathlib.Core.List.{List}
+use lib.ListN.{length, getD}
+use Rattle.netlist.specs.Netlist.{Netlist, gateAt}
+
+-- every entry of a list is below b
+abbrev pub Below : ℕ → List ℕ → Type 0
+Below b xs = (i : ℕ) → i < length xs → getD xs i 0 < b
+
+-- every used pin reads an input or an earlier gate
+abbrev pub PinsBelow : Netlist → Type 0
+PinsBelow net = (j : ℕ) → j < length (net .gates) → Below (net .inputs + j) (gateAt net j .pins)
+
+-- and every chance is at most 1, and every output an input or a gate
+pub record WellFormed (d : ℕ) (net : Netlist) : Type 0 where
+  pub pins-below : PinsBelow net
+  pub chances : (j : ℕ) → j < length (net .gates) → gateAt net j .chance ≤ d
+  pub outputs-below : Below (net .inputs + length (net .gates)) (net .outputs)
