@@ -1,0 +1,1 @@
+// The words of a work area: reading a gate, working out figures.
