@@ -1,0 +1,4 @@
+pub mod Frame
+pub mod Pattern
+pub mod Sound
+pub mod Loops

@@ -1,0 +1,67 @@
+-- What the loops over pins, outputs and gates use of a sound area. Assumes nothing.
+use Prim.Native.Nat.{ℕ, zero, suc, _+_, _-_, _*_, _/_, _≤_, _<_}
+use mathlib.Core.Path.{_≡_, refl, sym, ap, _∙_}
+use mathlib.Core.List.{List, [], _∷_, map}
+use native.Mathlib.Numerals.{add-one}
+use native.Mathlib.Omega.{arith}
+use lib.ListN.{length, getD, take, drop, length-take, length-drop}
+use lib.Seq.{getD-take, getD-drop, drop-cons, take-take}
+use Rattle.rounding.specs.Rounding.{unitsInOne}
+use Rattle.figure.specs.Figure.{outputStep, failureOf}
+use Rattle.words.specs.Words.{inputs, gates, outputs, pinCount, pins, usedPins, outputWords, sourceWord}
+use Rattle.words.specs.Rules.{Sound}
+use Rattle.words.specs.Work.{workGate, workGates, productFrom}
+use Rattle.words.proofs.Sound.{used-pin-below, source-word-fits}
+
+map-at : (f : ℕ → ℕ) (xs : List ℕ) (i : ℕ) → i < length xs → getD (map f xs) i 0 ≡ f (getD xs i 0)
+map-at f [] i h = absurd (omega arith)
+map-at f (x ∷ xs) zero h = refl
+map-at f (x ∷ xs) (suc i) h = map-at f xs i (omega arith)
+
+module _ (ws : List ℕ) (s : Sound ws) (j : ℕ) (below : j < gates ws) where
+  -- a pin's word in its place
+  pub pin-at : (i : ℕ) → i < 4 → getD ws (8 + 8 * j + 2 + i) 0 ≡ getD (pins ws j) i 0
+  pin-at i l = sym (getD-take 4 (drop (8 + 8 * j + 2) ws) i 0 l ∙ getD-drop (8 + 8 * j + 2) ws i 0)
+
+  -- a used pin reads a source
+  pub pin-source : (i : ℕ) → i < pinCount ws j → getD ws (8 + 8 * j + 2 + i) 0 < inputs ws + gates ws
+  pin-source i l =
+      let g = s .gate j below in
+      omega (arith, pin-at i (omega (arith, g .pin-count)), g .pins-below i l)
+
+  -- the used pins as they stand in the area
+  pub used-at : take (pinCount ws j) (drop (8 + 8 * j + 2) ws) ≡ usedPins ws j
+  used-at = sym (take-take (pinCount ws j) 4 (drop (8 + 8 * j + 2) ws) (s .gate j below .pin-count))
+
+  -- no pin's failure passes U
+  pub pin-failure : (words : List ℕ) → take (pinCount ws j) words ≡ map (sourceWord ws) (take (pinCount ws j) (drop (8 + 8 * j + 2) ws))
+      → (i : ℕ) → i < pinCount ws j → getD words i 0 / 2 ≤ unitsInOne
+  pin-failure words e i l =
+      let a = pinCount ws j in
+      let from = drop (8 + 8 * j + 2) ws in
+      let many : i < length (take a from) =
+          omega (arith, length-take a from, length-drop (8 + 8 * j + 2) ws, s .long, s .gate j below .pin-count) in
+      let here : getD words i 0 ≡ sourceWord ws (getD (take a from) i 0) =
+          sym (getD-take a words i 0 l) ∙ ap (λ (xs : List ℕ). getD xs i 0) e ∙ map-at (sourceWord ws) (take a from) i many in
+      let read : getD (take a from) i 0 < inputs ws + gates ws =
+          omega (arith, getD-take a from i 0 l, getD-drop (8 + 8 * j + 2) ws i 0, pin-source i l) in
+      omega (arith, here, source-word-fits ws s (getD (take a from) i 0) read)
+
+-- an output's word in its place
+pub output-at : (ws : List ℕ) (k : ℕ) → k < outputs ws → getD ws (8 + 8 * gates ws + k) 0 ≡ getD (outputWords ws) k 0
+output-at ws k l = sym (getD-take (outputs ws) (drop (8 + 8 * gates ws) ws) k 0 l ∙ getD-drop (8 + 8 * gates ws) ws k 0)
+
+pub output-count : (ws : List ℕ) → Sound ws → length (outputWords ws) ≡ outputs ws
+output-count ws s = omega (arith, length-take (outputs ws) (drop (8 + 8 * gates ws) ws), length-drop (8 + 8 * gates ws) ws, s .long)
+
+-- one output more
+pub product-turn : (ws os : List ℕ) (k r next : ℕ) {target : ℕ} → k < length os → next ≡ outputStep unitsInOne r (failureOf (sourceWord ws (getD os k 0)))
+    → productFrom ws r (drop k os) ≡ target → productFrom ws next (drop (k + 1) os) ≡ target
+product-turn ws os k r next l e t = rw (add-one, e) (ap (productFrom ws r) (sym (drop-cons os k 0 l)) ∙ t)
+
+-- one gate more
+pub gates-turn : (ws vs : List ℕ) (j m : ℕ) {target : List ℕ} → j < m → vs ≡ workGate ws j
+    → workGates ws j (m - j) ≡ target → workGates vs (j + 1) (m - (j + 1)) ≡ target
+gates-turn ws vs j m l e t =
+    let next : m - j ≡ suc (m - (j + 1)) = omega arith in
+    rw (e, add-one j) (rw (next, add-one j) at t)
