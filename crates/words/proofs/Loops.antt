@@ -1,16 +1,19 @@
 -- What the loops over pins, outputs and gates use of a sound area. Assumes nothing.
 use Prim.Native.Nat.{ℕ, zero, suc, _+_, _-_, _*_, _/_, _≤_, _<_}
 use mathlib.Core.Path.{_≡_, refl, sym, ap, _∙_}
+use mathlib.Core.Bool.{Bool, true, false, _||_}
 use mathlib.Core.List.{List, [], _∷_, map}
 use native.Mathlib.Numerals.{add-one}
 use native.Mathlib.Omega.{arith}
-use lib.ListN.{length, getD, take, drop, length-take, length-drop}
+use borrow.Author.Tests.{eq-eqb, ne-eqb}
+use lib.ListN.{length, getD, take, drop, length-take, length-drop, length-set}
 use lib.Seq.{getD-take, getD-drop, drop-cons, take-take}
 use Rattle.rounding.specs.Rounding.{unitsInOne}
 use Rattle.figure.specs.Figure.{outputStep, failureOf}
 use Rattle.words.specs.Words.{inputs, gates, outputs, pinCount, pins, usedPins, outputWords, sourceWord}
 use Rattle.words.specs.Rules.{Sound}
-use Rattle.words.specs.Work.{workGate, workGates, productFrom}
+use Rattle.words.specs.Work.{workGate, workGates, productFrom, readsMarked, workIf, markIf, workMarked}
+use Rattle.words.proofs.Frame.{SameNet, same-refl, same-work-gate}
 use Rattle.words.proofs.Sound.{used-pin-below, source-word-fits}
 
 map-at : (f : ℕ → ℕ) (xs : List ℕ) (i : ℕ) → i < length xs → getD (map f xs) i 0 ≡ f (getD xs i 0)
@@ -40,11 +43,11 @@ module _ (ws : List ℕ) (s : Sound ws) (j : ℕ) (below : j < gates ws) where
       let a = pinCount ws j in
       let from = drop (8 + 8 * j + 2) ws in
       let many : i < length (take a from) =
-          omega (arith, length-take a from, length-drop (8 + 8 * j + 2) ws, s .long, s .gate j below .pin-count) in
+      omega (arith, length-take a from, length-drop (8 + 8 * j + 2) ws, s .long, s .gate j below .pin-count) in
       let here : getD words i 0 ≡ sourceWord ws (getD (take a from) i 0) =
-          sym (getD-take a words i 0 l) ∙ ap (λ (xs : List ℕ). getD xs i 0) e ∙ map-at (sourceWord ws) (take a from) i many in
+      sym (getD-take a words i 0 l) ∙ ap (λ (xs : List ℕ). getD xs i 0) e ∙ map-at (sourceWord ws) (take a from) i many in
       let read : getD (take a from) i 0 < inputs ws + gates ws =
-          omega (arith, getD-take a from i 0 l, getD-drop (8 + 8 * j + 2) ws i 0, pin-source i l) in
+      omega (arith, getD-take a from i 0 l, getD-drop (8 + 8 * j + 2) ws i 0, pin-source i l) in
       omega (arith, here, source-word-fits ws s (getD (take a from) i 0) read)
 
 -- an output's word in its place
@@ -65,3 +68,32 @@ pub gates-turn : (ws vs : List ℕ) (j m : ℕ) {target : List ℕ} → j < m �
 gates-turn ws vs j m l e t =
     let next : m - j ≡ suc (m - (j + 1)) = omega arith in
     rw (e, add-one j) (rw (next, add-one j) at t)
+
+-- a word of a part in its place
+pub part-at : (ws : List ℕ) (from count i : ℕ) → i < count → getD (take count (drop from ws)) i 0 ≡ getD ws (from + i) 0
+part-at ws from count i l = getD-take count (drop from ws) i 0 l ∙ getD-drop from ws i 0
+
+-- a pin that reads a marked source, and one that does not
+pub marked-here : (marks ps : List ℕ) (i : ℕ) → i < length ps → getD marks (getD ps i 0) 0 ≡ 1 → readsMarked marks (drop i ps) ≡ true
+marked-here marks ps i l e = rw (drop-cons ps i 0 l) (ap (λ (b : Bool). b || readsMarked marks (drop (suc i) ps)) (eq-eqb _ _ e))
+
+pub not-marked-here : (marks ps : List ℕ) (i : ℕ) → i < length ps → (getD marks (getD ps i 0) 0 ≡ 1 → ⊥)
+    → readsMarked marks (drop (i + 1) ps) ≡ readsMarked marks (drop i ps)
+not-marked-here marks ps i l ne =
+    rw (add-one, drop-cons ps i 0 l) (sym (ap (λ (b : Bool). b || readsMarked marks (drop (suc i) ps)) (ne-eqb _ _ ne)))
+
+-- one gate more: worked out and marked where it reads a marked source
+pub marked-turn : (ws vs marks marks′ : List ℕ) (j m : ℕ) (b : Bool) {target : List ℕ} → j < m → readsMarked marks (usedPins ws j) ≡ b
+    → vs ≡ workIf b ws j → marks′ ≡ markIf b marks (inputs ws + j)
+    → workMarked ws marks j (m - j) ≡ target → workMarked vs marks′ (j + 1) (m - (j + 1)) ≡ target
+marked-turn ws vs marks marks′ j m b l r e f t =
+    let next : m - j ≡ suc (m - (j + 1)) = omega arith in
+    rw (e, f, ← r, add-one j) (rw (next, add-one j) at t)
+
+pub same-work-if : (b : Bool) (ws : List ℕ) (j : ℕ) → j < gates ws → SameNet ws (workIf b ws j)
+same-work-if true ws j l = same-work-gate ws j l
+same-work-if false ws j l = same-refl ws
+
+pub mark-if-length : (b : Bool) (marks : List ℕ) (s : ℕ) → length (markIf b marks s) ≡ length marks
+mark-if-length true marks s = length-set marks s 1
+mark-if-length false marks s = refl

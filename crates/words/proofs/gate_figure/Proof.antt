@@ -32,11 +32,12 @@ pin-words-requires : tie.Need-pin-words-requires
 pin-words-requires c κs =
     let s = c .before .before .before in
     let ws = s .args .area .now in
-    let g = s .pre .0 .gate (s .args .gate) (s .pre .1) in
-    ( s .pre .0
-    , ( (rw (c .index .ensures) (g .pin-count), omega (arith, s .pre .0 .long, s .pre .1))
-    , λ i h. pin-source ws (s .pre .0) (s .args .gate) (s .pre .1) i (rw (← c .index .ensures) h)
-    )
+    let g = s .pre .0 .gate (s .args .gate) (s .pre .1) in (
+      s .pre .0,
+      (
+        (rw (c .index .ensures) (g .pin-count), omega (arith, s .pre .0 .long, s .pre .1)),
+        λ i h. pin-source ws (s .pre .0) (s .args .gate) (s .pre .1) i (rw (← c .index .ensures) h),
+      ),
     )
 
 add-gate-word : tie.Need-add-gate-word
@@ -62,9 +63,9 @@ gate-word-requires c κs =
     let s = c .before .before .before .before .before .before in
     let ws = s .args .area .now in
     let g = s .pre .0 .gate (s .args .gate) (s .pre .1) in
-    let e = c .before .before .before .index .ensures in
-    ( (rw e (g .pin-count), g .flip-fits)
-    , λ i h. pin-failure ws (s .pre .0) (s .args .gate) (s .pre .1) (c .before .before .pin-words .result) (rw e at (c .before .before .pin-words .ensures)) i (rw (← e) h)
+    let e = c .before .before .before .index .ensures in (
+      (rw e (g .pin-count), g .flip-fits),
+      λ i h. pin-failure ws (s .pre .0) (s .args .gate) (s .pre .1) (c .before .before .pin-words .result) (rw e at (c .before .before .pin-words .ensures)) i (rw (← e) h),
     )
 
 returns : tie.Need-returns

@@ -59,14 +59,14 @@ loop-again c =
     let s = c .before .before .before .before .before .before in
     let from = drop (s .args .base + 2) (s .args .area .now) in
     let here : c .source-word .result ≡ sourceWord (s .args .area .now) (getD from (l .i) 0) =
-        c .source-word .ensures ∙ ap (sourceWord (s .args .area .now)) (c .before .index .ensures ∙ sym (getD-drop (s .args .base + 2) (s .args .area .now) (l .i) 0)) in
-    ( omega arith
-    , simp length-set (l .inv .1)
-    , rw here
-    (map-turn (sourceWord (s .args .area .now)) from (l .words) (l .i)
-    (omega (arith, length-drop (s .args .base + 2) (s .args .area .now), s .pre .1 .0 .1))
-    (omega arith)
-    (l .inv .2))
+    c .source-word .ensures ∙ ap (sourceWord (s .args .area .now)) (c .before .index .ensures ∙ sym (getD-drop (s .args .base + 2) (s .args .area .now) (l .i) 0)) in (
+      omega arith,
+      simp length-set (l .inv .1),
+      rw here
+          (map-turn (sourceWord (s .args .area .now)) from (l .words) (l .i)
+          (omega (arith, length-drop (s .args .base + 2) (s .args .area .now), s .pre .1 .0 .1))
+          (omega arith)
+          (l .inv .2)),
     )
 
 returns : tie.Need-returns Inv-loop μ-loop

@@ -101,12 +101,12 @@ loop-again : tie.Need-loop-again Inv-loop μ-loop
 loop-again c =
     let l = c .before .before .before .before .before .loop in
     let s = c .before .before .before .before .before .before .before .before .before .before .before in
-    let ws = s .args .area .now in
-    ( omega arith
-    , rw (c .output-step .ensures) (output-at-most unitsInOne (omega arith) (l .reliability) (c .before .source-word .result / 2) (l .inv .1) (fits (c .before)))
-    , product-turn ws (outputWords ws) (l .k) (l .reliability) (c .output-step .result) (below (c .before .before))
-    (c .output-step .ensures ∙ ap (λ (o : ℕ). outputStep unitsInOne (l .reliability) (o / 2)) (c .before .source-word .ensures ∙ ap (sourceWord ws) (here (c .before .before))))
-    (l .inv .2)
+    let ws = s .args .area .now in (
+      omega arith,
+      rw (c .output-step .ensures) (output-at-most unitsInOne (omega arith) (l .reliability) (c .before .source-word .result / 2) (l .inv .1) (fits (c .before))),
+      product-turn ws (outputWords ws) (l .k) (l .reliability) (c .output-step .result) (below (c .before .before))
+          (c .output-step .ensures ∙ ap (λ (o : ℕ). outputStep unitsInOne (l .reliability) (o / 2)) (c .before .source-word .ensures ∙ ap (sourceWord ws) (here (c .before .before))))
+          (l .inv .2),
     )
 
 cast-result : tie.Need-cast-result Inv-loop μ-loop

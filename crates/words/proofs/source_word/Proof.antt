@@ -41,14 +41,14 @@ shared-slice-read-result-2 c = search needs
 returns : tie.Need-returns
 returns c =
     let below : c .before .before .before .before .before .args .source < inputs (c .before .before .before .before .before .args .area .now) =
-        omega (arith, c .before .if1 .taken, c .before .before .index .ensures) in
+    omega (arith, c .before .if1 .taken, c .before .before .index .ensures) in
     simp (lt-ltb _ _ below)
 
 returns-2 : tie.Need-returns-2
 returns-2 c =
     let e = c .before .before .index .ensures in
     let above : inputs (c .before .before .before .before .before .args .area .now) ≤ c .before .before .before .before .before .args .source =
-        omega (arith, c .before .if1 .left, e) in
+    omega (arith, c .before .if1 .left, e) in
     rw (le-ltb _ _ above, e) refl
 
 pub source-word-spec : {M : Type 1} → statement M

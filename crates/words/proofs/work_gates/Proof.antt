@@ -48,12 +48,12 @@ loop-again : tie.Need-loop-again Inv-loop μ-loop
 loop-again c =
     let l = c .before .before .before .before .before .loop in
     let e = c .before .before .work-gate .ensures in
-    let below : l .gate < gates (l .area) = omega (arith, l .inv .1) in
-    ( omega arith
-    , rw e (same-gates (l .area) _ (same-work-gate (l .area) (l .gate) below) ∙ l .inv .1)
-    , rw e (sound-work-gate (l .area) (l .gate) (l .inv .2) below)
-    , gates-turn (l .area) (c .before .before .work-gate .last .0) (l .gate) _ (omega arith) e (l .inv .3)
-    , rw e (work-gate-length (l .area) (l .gate)) ∙ l .inv .4
+    let below : l .gate < gates (l .area) = omega (arith, l .inv .1) in (
+      omega arith,
+      rw e (same-gates (l .area) _ (same-work-gate (l .area) (l .gate) below) ∙ l .inv .1),
+      rw e (sound-work-gate (l .area) (l .gate) (l .inv .2) below),
+      gates-turn (l .area) (c .before .before .work-gate .last .0) (l .gate) _ (omega arith) e (l .inv .3),
+      rw e (work-gate-length (l .area) (l .gate)) ∙ l .inv .4,
     )
 
 same-length : tie.Need-same-length Inv-loop μ-loop
