@@ -1,19 +1,20 @@
 -- What the loops over pins, outputs and gates use of a sound area. Assumes nothing.
 use Prim.Native.Nat.{ℕ, zero, suc, _+_, _-_, _*_, _/_, _≤_, _<_}
-use mathlib.Core.Path.{_≡_, refl, sym, ap, _∙_}
+use mathlib.Core.Path.{_≡_, refl, sym, ap, ap₂, _∙_}
 use mathlib.Core.Bool.{Bool, true, false, _||_}
 use mathlib.Core.List.{List, [], _∷_, map}
 use native.Mathlib.Numerals.{add-one}
 use native.Mathlib.Omega.{arith}
 use borrow.Author.Tests.{eq-eqb, ne-eqb}
-use lib.ListN.{length, getD, take, drop, length-take, length-drop, length-set}
+use native.Mathlib.Nat.{sub-zero}
+use lib.ListN.{length, getD, take, drop, set, length-take, length-drop, length-set}
 use lib.Seq.{getD-take, getD-drop, drop-cons, take-take}
 use Rattle.rounding.specs.Rounding.{unitsInOne}
 use Rattle.figure.specs.Figure.{outputStep, failureOf}
-use Rattle.words.specs.Words.{inputs, gates, outputs, pinCount, pins, usedPins, outputWords, sourceWord}
+use Rattle.words.specs.Words.{inputs, gates, outputs, pattern, pinCount, pins, usedPins, outputWords, sourceWord}
 use Rattle.words.specs.Rules.{Sound}
-use Rattle.words.specs.Work.{workGate, workGates, productFrom, readsMarked, workIf, markIf, workMarked}
-use Rattle.words.proofs.Frame.{SameNet, same-refl, same-work-gate}
+use Rattle.words.specs.Work.{workGate, workGates, productFrom, workReliability, readsMarked, workIf, markIf, workMarked, markOf, invertBit, toggleWords, setWords}
+use Rattle.words.proofs.Frame.{SameNet, same-refl, same-gates, same-work-gate, same-store-pattern, same-store-flip}
 use Rattle.words.proofs.Sound.{used-pin-below, source-word-fits}
 
 map-at : (f : ℕ → ℕ) (xs : List ℕ) (i : ℕ) → i < length xs → getD (map f xs) i 0 ≡ f (getD xs i 0)
@@ -97,3 +98,28 @@ same-work-if false ws j l = same-refl ws
 pub mark-if-length : (b : Bool) (marks : List ℕ) (s : ℕ) → length (markIf b marks s) ≡ length marks
 mark-if-length true marks s = length-set marks s 1
 mark-if-length false marks s = refl
+
+-- the steps of toggling an input, put together
+pub toggle-is : (ws marks vs : List ℕ) (i q : ℕ) → q ≡ invertBit (pattern ws) i → marks ≡ markOf i
+    → vs ≡ workMarked (set ws 3 q) marks 0 (gates (set ws 3 q) - 0) → workReliability vs ≡ toggleWords ws i
+unfolding toggleWords
+toggle-is ws marks vs i q e m v =
+    let count : gates (set ws 3 q) - 0 ≡ gates ws = sub-zero (gates (set ws 3 q)) ∙ same-gates ws (set ws 3 q) (same-store-pattern ws q) in
+    ap workReliability
+    (v ∙ ap₂ (λ (xs : List ℕ) (k : ℕ). workMarked (set ws 3 q) xs 0 k) m count ∙ ap (λ (x : ℕ). workMarked (set ws 3 x) (markOf i) 0 (gates ws)) e)
+
+-- the steps of setting a flip, put together
+pub set-is : (ws marks us vs : List ℕ) (g units s : ℕ) → g < gates ws → s ≡ inputs ws + g → marks ≡ markOf s
+    → us ≡ workGate (set ws (8 + 8 * g + 6) units) g → vs ≡ workMarked us marks (g + 1) (gates us - (g + 1))
+    → workReliability vs ≡ setWords ws g units
+unfolding setWords
+set-is ws marks us vs g units s l e m u v =
+    let flipped = set ws (8 + 8 * g + 6) units in
+    let same = same-store-flip ws g units l in
+    let count : gates us - (g + 1) ≡ gates ws - suc g =
+    rw (u, same-gates flipped _ (same-work-gate flipped g (rw (same-gates ws flipped same) l)), same-gates ws flipped same, add-one g) refl in
+    ap workReliability
+    (v
+    ∙ ap (λ (k : ℕ). workMarked us marks (g + 1) k) count
+    ∙ ap (λ (xs : List ℕ). workMarked xs marks (g + 1) (gates ws - suc g)) u
+    ∙ ap₂ (λ (xs : List ℕ) (j : ℕ). workMarked (workGate flipped g) xs j (gates ws - suc g)) (m ∙ ap markOf e) (add-one g))

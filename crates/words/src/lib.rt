@@ -160,3 +160,42 @@ fn mark_of(source: usize) -> [u8; 1036]
     marks[source] = 1;
     marks
 }
+
+// A pattern with bit `input` inverted.
+fn inverted_bit(pattern: u32, input: usize) -> u32
+    requires { ⌜ (input < 12) × (pattern < 4096) ⌝ }
+    ensures { λ r. ⌜ r ≡ invertBit pattern input ⌝ }
+{
+    let bit = 1 << input;
+    if (pattern >> input) % 2 == 1 {
+        pattern - bit
+    } else {
+        pattern + bit
+    }
+}
+
+// An input toggled: its bit inverted, the gates that depend on it and the reliability worked out.
+pub fn toggle(area: &mut [u32], input: usize)
+    requires { ⌜ Sound (now area) ⌝ }
+    requires { ⌜ input < inputs (now area) ⌝ }
+    ensures { λ _. ⌜ now (area .exit) ≡ toggleWords (now (area .entry)) input ⌝ }
+{
+    let pattern = inverted_bit(area[3], input);
+    area[3] = pattern;
+    work_marked(area, mark_of(input), 0);
+    work_reliability(area);
+}
+
+// A gate's flip set: the gate, those that depend on it and the reliability worked out.
+pub fn set_units(area: &mut [u32], gate: usize, units: u32)
+    requires { ⌜ Sound (now area) ⌝ }
+    requires { ⌜ gate < gates (now area) ⌝ }
+    requires { ⌜ units ≤ unitsInOne ⌝ }
+    ensures { λ _. ⌜ now (area .exit) ≡ setWords (now (area .entry)) gate units ⌝ }
+{
+    let source = index(area[0]) + gate;
+    area[8 + 8 * gate + 6] = units;
+    work_gate(area, gate);
+    work_marked(area, mark_of(source), gate + 1);
+    work_reliability(area);
+}
