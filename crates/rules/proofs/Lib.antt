@@ -1,2 +1,4 @@
 pub mod Every
+pub mod Facts
 pub mod Four
+pub mod Parts
