@@ -2,3 +2,4 @@ pub mod Every
 pub mod Facts
 pub mod Four
 pub mod Parts
+pub mod Sound

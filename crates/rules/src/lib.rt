@@ -1,7 +1,7 @@
 // Rules 5, 6 and 14 of document 01: whether a gate and a work area are well-formed, and with which number an area is refused.
 ghost use mathlib.Core.Path.{_≡_};
 ghost use Prim.Native.Nat.{_+_, _-_, _*_, _^_, _<_, _≤_};
-ghost use lib.ListN.{length, getD, take, drop};
+ghost use lib.ListN.{length, take, drop};
 ghost use lib.Dec.{ltb};
 ghost use Rattle.words.specs.Rules.{
   allZero,

@@ -1,25 +1,37 @@
 -- `rules::gate_sound` meets its contract: each test that fails decides. Assumes nothing.
-use Prim.Native.Nat.{ℕ, _+_, _*_}
+use Prim.Native.Nat.{_+_, _*_}
 use mathlib.Core.Bool.{Bool, true, false}
-use mathlib.Core.List.{List}
 use mathlib.Core.Path.{_≡_, refl, sym, ap, _∙_}
 use native.Mathlib.Omega.{arith}
 use borrow.Author.Tests.{le-leb, lt-leb, not-true, not-false}
 use borrow.Author.Needs.{needs}
-use lib.ListN.{getD}
-use Rattle.words.specs.Words.{inputs, pinCount, table, pins, flip}
-use Rattle.words.specs.Rules.{gateShape, usedBelow, gateSound}
+use Rattle.words.specs.Words.{inputs, pinCount, table, pins}
+use Rattle.words.specs.Rules.{gateShape, usedBelow}
 use Rattle.rules.proofs.Parts.{gate-is}
 use Rattle.rules.proofs.Facts.{shape-holds}
 use Rattle.rules.proofs.gate_sound.Statement.{statement}
 use Rattle.rules.proofs.gate_sound.Tie as tie
 
--- the answers of the two calls, of the area's own words
-shape : (c : tie.After-gate-shape) → gateShape (pinCount (c .before .before .before .before .before .args .area .now) (c .before .before .before .before .before .args .j)) (table (c .before .before .before .before .before .args .area .now) (c .before .before .before .before .before .args .j)) (pins (c .before .before .before .before .before .args .area .now) (c .before .before .before .before .before .args .j)) ≡ c .gate-shape .result
-shape c = sym (c .gate-shape .ensures ∙ ap (gateShape _ _) (c .before .before .gate-pins .ensures))
+-- rules 5 and 6 of the gate that the call is for
+abbrev Shaped : tie.Start → Bool
+Shaped s = gateShape (pinCount (s .args .area .now) (s .args .j)) (table (s .args .area .now) (s .args .j)) (pins (s .args .area .now) (s .args .j))
 
-used : (c : tie.After-used-below) → usedBelow (inputs (c .before .before .before .before .before .before .before .before .args .area .now) + c .before .before .before .before .before .before .before .before .args .j) (pinCount (c .before .before .before .before .before .before .before .before .args .area .now) (c .before .before .before .before .before .before .before .before .args .j)) (pins (c .before .before .before .before .before .before .before .before .args .area .now) (c .before .before .before .before .before .before .before .before .args .j)) ≡ c .used-below .result
+abbrev Used : tie.Start → Bool
+Used s = usedBelow (inputs (s .args .area .now) + s .args .j) (pinCount (s .args .area .now) (s .args .j)) (pins (s .args .area .now) (s .args .j))
+
+-- the calls answer them
+shaped : (c : tie.After-gate-shape) → Shaped (c .before .before .before .before .before) ≡ c .gate-shape .result
+shaped c = sym (c .gate-shape .ensures ∙ ap (gateShape _ _) (c .before .before .gate-pins .ensures))
+
+used : (c : tie.After-used-below) → Used (c .before .before .before .before .before .before .before .before) ≡ c .used-below .result
 used c = sym (c .used-below .ensures ∙ ap (usedBelow _ _) (c .before .before .before .before .before .gate-pins .ensures))
+
+-- and they passed
+shape-passed : (c : tie.Else1) → Shaped (c .before .before .before .before .before .before) ≡ true
+shape-passed c = shaped (c .before) ∙ not-false (c .before .gate-shape .result) (c .if1 .left)
+
+used-passed : (c : tie.Else2) → Used (c .before .before .before .before .before .before .before .before .before) ≡ true
+used-passed c = used (c .before) ∙ not-false (c .before .used-below .result) (c .if2 .left)
 
 mul-base : tie.Need-mul-base
 mul-base c = search needs
@@ -49,7 +61,9 @@ gate-shape-requires : tie.Need-gate-shape-requires
 gate-shape-requires c κs = search needs
 
 returns : tie.Need-returns
-returns c = sym (gate-is (c .before .before .before .before .before .before .args .area .now) (c .before .before .before .before .before .before .args .j) false _ _ _ (shape (c .before) ∙ not-true (c .before .gate-shape .result) (c .if1 .taken)) refl refl refl)
+returns c =
+    let a = c .before .before .before .before .before .before .args in
+    sym (gate-is (a .area .now) (a .j) false _ _ _ (shaped (c .before) ∙ not-true (c .before .gate-shape .result) (c .if1 .taken)) refl refl refl)
 
 shared-slice-read-used-below : tie.Need-shared-slice-read-used-below
 shared-slice-read-used-below c = search needs
@@ -61,22 +75,14 @@ add-used-below : tie.Need-add-used-below
 add-used-below c = search needs
 
 used-below-requires : tie.Need-used-below-requires
-used-below-requires c κs = shape-holds _ _ _ (shape (c .before .before) ∙ not-false (c .before .before .gate-shape .result) (c .before .if1 .left)) .pin-count
+used-below-requires c κs =
+    shape-holds _ _ _ (shape-passed (c .before)) .pin-count
 
 returns-2 : tie.Need-returns-2
 returns-2 c =
+    let a = c .before .before .before .before .before .before .before .before .before .args in
     sym
-    (gate-is
-    (c .before .before .before .before .before .before .before .before .before .args .area .now)
-    (c .before .before .before .before .before .before .before .before .before .args .j)
-    true
-    false
-    _
-    _
-    (shape (c .before .before .before .before) ∙ not-false (c .before .before .before .before .gate-shape .result) (c .before .before .before .if1 .left))
-    (used (c .before) ∙ not-true (c .before .used-below .result) (c .if2 .taken))
-    refl
-    refl)
+    (gate-is (a .area .now) (a .j) true false _ _ (shape-passed (c .before .before .before)) (used (c .before) ∙ not-true (c .before .used-below .result) (c .if2 .taken)) refl refl)
 
 add-if3 : tie.Need-add-if3
 add-if3 c = search needs
@@ -92,18 +98,8 @@ cast-if3 c = omega (arith, c .shared-slice-known5 .given (8 + 8 * c .before .bef
 
 returns-3 : tie.Need-returns-3
 returns-3 c =
-    sym
-    (gate-is
-    (c .before .before .before .before .before .before .before .before .before .before .before .args .area .now)
-    (c .before .before .before .before .before .before .before .before .before .before .before .args .j)
-    true
-    true
-    false
-    _
-    (shape (c .before .before .before .before .before .before) ∙ not-false (c .before .before .before .before .before .before .gate-shape .result) (c .before .before .before .before .before .if1 .left))
-    (used (c .before .before .before) ∙ not-false (c .before .before .before .used-below .result) (c .before .before .if2 .left))
-    (lt-leb _ _ (c .if3 .taken))
-    refl)
+    let a = c .before .before .before .before .before .before .before .before .before .before .before .args in
+    sym (gate-is (a .area .now) (a .j) true true false _ (shape-passed (c .before .before .before .before .before)) (used-passed (c .before .before)) (lt-leb _ _ (c .if3 .taken)) refl)
 
 add-result : tie.Need-add-result
 add-result c = search needs
@@ -119,18 +115,8 @@ cast-result c = omega (arith, c .shared-slice-known6 .given (8 + 8 * c .before .
 
 returns-4 : tie.Need-returns-4
 returns-4 c =
-    sym
-    (gate-is
-    (c .before .before .before .before .before .before .before .before .before .before .before .before .args .area .now)
-    (c .before .before .before .before .before .before .before .before .before .before .before .before .args .j)
-    true
-    true
-    true
-    _
-    (shape (c .before .before .before .before .before .before .before) ∙ not-false (c .before .before .before .before .before .before .before .gate-shape .result) (c .before .before .before .before .before .before .if1 .left))
-    (used (c .before .before .before .before) ∙ not-false (c .before .before .before .before .used-below .result) (c .before .before .before .if2 .left))
-    (le-leb _ _ (c .before .if3 .left))
-    refl)
+    let a = c .before .before .before .before .before .before .before .before .before .before .before .before .args in
+    sym (gate-is (a .area .now) (a .j) true true true _ (shape-passed (c .before .before .before .before .before .before)) (used-passed (c .before .before .before)) (le-leb _ _ (c .before .if3 .left)) refl)
 
 pub gate-sound-spec : {M : Type 1} → statement M
 gate-sound-spec =

@@ -1,6 +1,7 @@
 -- `rules::judge` meets its contract: each test that fails decides, in the order of the refusals. Assumes nothing.
 use Prim.Native.Nat.{ℕ, _≤_}
-use mathlib.Core.Bool.{Bool, true, false}
+use mathlib.Core.Bool.{true, false}
+use mathlib.Core.List.{List}
 use mathlib.Core.Path.{_≡_, refl, sym, ap, _∙_}
 use native.Mathlib.Omega.{arith}
 use borrow.Author.Tests.{lt-ltb, le-ltb, not-true, not-false}
@@ -13,16 +14,21 @@ use borrow.Author.Needs.{needs}
 use Rattle.rules.proofs.judge.Statement.{statement}
 use Rattle.rules.proofs.judge.Tie as tie
 
+-- the area's words
+abbrev words : tie.Start → List ℕ
+words s = s .args .area .now
+
 -- the counts that passed
-counts-passed : (c : tie.Else2) → countsInRange (inputs (c .before .before .before .before .before .before .before .args .area .now)) (gates (c .before .before .before .before .before .before .before .args .area .now)) (outputs (c .before .before .before .before .before .before .before .args .area .now)) ≡ true
+counts-passed : (c : tie.Else2) → countsInRange (inputs (words (c .before .before .before .before .before .before .before))) (gates (words (c .before .before .before .before .before .before .before))) (outputs (words (c .before .before .before .before .before .before .before))) ≡ true
 counts-passed c = sym (c .before .counts-in-range .ensures) ∙ not-false (c .before .counts-in-range .result) (c .if2 .left)
 
-fit : (c : tie.Else2) → (inputs (c .before .before .before .before .before .before .before .args .area .now) ≤ 12) × (gates (c .before .before .before .before .before .before .before .args .area .now) ≤ 1024) × (1 ≤ outputs (c .before .before .before .before .before .before .before .args .area .now)) × (outputs (c .before .before .before .before .before .before .before .args .area .now) ≤ 64)
+fit : (c : tie.Else2)
+    → (inputs (words (c .before .before .before .before .before .before .before)) ≤ 12) × (gates (words (c .before .before .before .before .before .before .before)) ≤ 1024) × (1 ≤ outputs (words (c .before .before .before .before .before .before .before))) × (outputs (words (c .before .before .before .before .before .before .before)) ≤ 64)
 fit c = counts-hold _ _ _ (counts-passed c)
 
 returns : tie.Need-returns
 unfolding judged
-returns c = sym (ap answerOf (refusal-is (c .before .before .args .area .now) true _ _ _ (lt-ltb _ _ (c .if1 .taken)) refl refl refl))
+returns c = sym (ap answerOf (refusal-is (words (c .before .before)) true _ _ _ (lt-ltb _ _ (c .if1 .taken)) refl refl refl))
 
 shared-slice-read-gates : tie.Need-shared-slice-read-gates
 shared-slice-read-gates c = search needs
@@ -43,7 +49,7 @@ returns-2 c =
     (ap
     answerOf
     (refusal-is
-    (c .before .before .before .before .before .before .before .args .area .now)
+    (words (c .before .before .before .before .before .before .before))
     false
     false
     _
@@ -71,7 +77,8 @@ add-if3-2 c = omega (arith, fit c)
 returns-3 : tie.Need-returns-3
 unfolding judged
 returns-3 c =
-    sym (ap answerOf (refusal-is (c .before .before .before .before .before .before .before .before .args .area .now) false true true _ (le-ltb _ _ (c .before .before .before .before .before .before .if1 .left)) (counts-passed (c .before)) (lt-ltb _ _ (c .if3 .taken)) refl))
+    sym
+    (ap answerOf (refusal-is (words (c .before .before .before .before .before .before .before .before)) false true true _ (le-ltb _ _ (c .before .before .before .before .before .before .if1 .left)) (counts-passed (c .before)) (lt-ltb _ _ (c .if3 .taken)) refl))
 
 rest-sound-requires : tie.Need-rest-sound-requires
 rest-sound-requires c κs =
@@ -85,7 +92,7 @@ returns-4 c =
     (ap
     answerOf
     (refusal-is
-    (c .before .before .before .before .before .before .before .before .before .before .args .area .now)
+    (words (c .before .before .before .before .before .before .before .before .before .before))
     false
     true
     false
@@ -102,7 +109,7 @@ returns-5 c =
     (ap
     answerOf
     (refusal-is
-    (c .before .before .before .before .before .before .before .before .before .before .args .area .now)
+    (words (c .before .before .before .before .before .before .before .before .before .before))
     false
     true
     false

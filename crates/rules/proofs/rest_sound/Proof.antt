@@ -1,35 +1,46 @@
 -- `rules::rest_sound` meets its contract: each test that fails decides. Assumes nothing.
-use Prim.Native.Nat.{ℕ, _+_, _-_, _*_, _^_}
-use mathlib.Core.Bool.{Bool, true, false}
+use Prim.Native.Nat.{ℕ, _+_, _*_, _%_, _^_}
+use mathlib.Core.Bool.{true, false}
+use mathlib.Core.List.{List}
 use mathlib.Core.Path.{_≡_, refl, sym, ap, _∙_}
 use native.Mathlib.Omega.{arith}
 use borrow.Author.Tests.{le-leb, lt-leb, lt-ltb, le-ltb, not-true, not-false}
-use lib.Dec.{ltb, leb}
-use lib.ListN.{getD, take, drop}
-use Rattle.rounding.specs.Rounding.{unitsInOne}
-use Rattle.words.specs.Words.{inputs, gates, outputs, pattern, reliabilityWord}
+use lib.Dec.{ltb}
+use Rattle.words.specs.Words.{inputs, gates, pattern, outputWords}
 use Rattle.words.specs.Rules.{allBelow, reservedRight, gatesSound}
 use Rattle.rules.proofs.Parts.{rest-is}
-use Rattle.rules.proofs.Facts.{shifted}
+use Rattle.rules.proofs.Facts.{shifted, middle}
 use borrow.Author.Needs.{needs}
 use Rattle.rules.proofs.rest_sound.Statement.{statement}
 use Rattle.rules.proofs.rest_sound.Tie as tie
 
--- what each test that passed says of the area
-reserved-passed : (c : tie.Else1) → reservedRight (c .before .before .before .args .area .now) ≡ true
+-- the area's words
+abbrev words : tie.Start → List ℕ
+words s = s .args .area .now
+
+-- what the tests that passed say of them
+reserved-passed : (c : tie.Else1) → reservedRight (words (c .before .before .before)) ≡ true
 reserved-passed c = sym (c .before .reserved-right .ensures) ∙ not-false (c .before .reserved-right .result) (c .if1 .left)
 
-pattern-passed : (c : tie.Else2) → ltb (pattern (c .before .before .before .before .before .before .args .area .now)) (2 ^ inputs (c .before .before .before .before .before .before .args .area .now)) ≡ true
-pattern-passed c = lt-ltb _ _ (rw (shifted (inputs (c .before .before .before .before .before .before .args .area .now)) (c .before .before .before .before .before .before .pre .1 .0)) at (c .if2 .left))
+shift : (s : tie.Start) → 1 * 2 ^ inputs (words s) % 2 ^ 32 ≡ 2 ^ inputs (words s)
+shift s = shifted (inputs (words s)) (s .pre .1 .0)
 
-gates-passed : (c : tie.Else4) → gatesSound (c .before .before .before .before .before .before .before .before .before .before .args .area .now) 0 (gates (c .before .before .before .before .before .before .before .before .before .before .args .area .now)) ≡ true
+pattern-passed : (c : tie.Else2) → ltb (pattern (words (c .before .before .before .before .before .before))) (2 ^ inputs (words (c .before .before .before .before .before .before))) ≡ true
+pattern-passed c = lt-ltb _ _ (rw (shift (c .before .before .before .before .before .before)) at (c .if2 .left))
+
+gates-passed : (c : tie.Else4) → gatesSound (words (c .before .before .before .before .before .before .before .before .before .before)) 0 (gates (words (c .before .before .before .before .before .before .before .before .before .before))) ≡ true
 gates-passed c = sym (c .before .gates-sound .ensures) ∙ not-false (c .before .gates-sound .result) (c .if4 .left)
+
+outputs-are : (c : tie.After-all-below) → allBelow (inputs (words (c .before .before .before .before .before .before .before .before .before .before .before .before .before .before)) + gates (words (c .before .before .before .before .before .before .before .before .before .before .before .before .before .before))) (outputWords (words (c .before .before .before .before .before .before .before .before .before .before .before .before .before .before))) ≡ c .all-below .result
+outputs-are c = ap (allBelow _) (sym (middle (words (c .before .before .before .before .before .before .before .before .before .before .before .before .before .before)))) ∙ sym (c .all-below .ensures)
 
 reserved-right-requires : tie.Need-reserved-right-requires
 reserved-right-requires c κs = search needs
 
 returns : tie.Need-returns
-returns c = sym (rest-is (c .before .before .before .args .area .now) false _ _ _ _ (sym (c .before .reserved-right .ensures) ∙ not-true (c .before .reserved-right .result) (c .if1 .taken)) refl refl refl refl)
+returns c =
+    sym
+    (rest-is (words (c .before .before .before)) false _ _ _ _ (sym (c .before .reserved-right .ensures) ∙ not-true (c .before .reserved-right .result) (c .if1 .taken)) refl refl refl refl)
 
 shared-slice-read-if2 : tie.Need-shared-slice-read-if2
 shared-slice-read-if2 c = search needs
@@ -42,8 +53,7 @@ shl-if2 c = search needs
 
 returns-2 : tie.Need-returns-2
 returns-2 c =
-    sym
-    (rest-is (c .before .before .before .before .before .before .args .area .now) true false _ _ _ (reserved-passed (c .before .before .before)) (le-ltb _ _ (rw (shifted (inputs (c .before .before .before .before .before .before .args .area .now)) (c .before .before .before .before .before .before .pre .1 .0)) at (c .if2 .taken))) refl refl refl)
+    sym (rest-is (words (c .before .before .before .before .before .before)) true false _ _ _ (reserved-passed (c .before .before .before)) (le-ltb _ _ (rw (shift (c .before .before .before .before .before .before)) at (c .if2 .taken))) refl refl refl)
 
 shared-slice-read-if3 : tie.Need-shared-slice-read-if3
 shared-slice-read-if3 c = search needs
@@ -53,8 +63,7 @@ cast-if3 c = omega (arith, c .shared-slice-known4 .given 4)
 
 returns-3 : tie.Need-returns-3
 returns-3 c =
-    sym
-    (rest-is (c .before .before .before .before .before .before .before .before .args .area .now) true true false _ _ (reserved-passed (c .before .before .before .before .before)) (pattern-passed (c .before .before)) (lt-leb _ _ (c .if3 .taken)) refl refl)
+    sym (rest-is (words (c .before .before .before .before .before .before .before .before)) true true false _ _ (reserved-passed (c .before .before .before .before .before)) (pattern-passed (c .before .before)) (lt-leb _ _ (c .if3 .taken)) refl refl)
 
 gates-sound-requires : tie.Need-gates-sound-requires
 gates-sound-requires c κs = search needs
@@ -63,7 +72,7 @@ returns-4 : tie.Need-returns-4
 returns-4 c =
     sym
     (rest-is
-    (c .before .before .before .before .before .before .before .before .before .before .args .area .now)
+    (words (c .before .before .before .before .before .before .before .before .before .before))
     true
     true
     true
@@ -107,11 +116,9 @@ all-below-requires c κs = search needs
 
 returns-5 : tie.Need-returns-5
 returns-5 c =
-    let ws = c .before .before .before .before .before .before .before .before .before .before .before .before .before .before .args .area .now in
-    let z : 8 + 8 * gates ws + outputs ws - (8 + 8 * gates ws) ≡ outputs ws = omega arith in
     sym
     (rest-is
-    ws
+    (words (c .before .before .before .before .before .before .before .before .before .before .before .before .before .before))
     true
     true
     true
@@ -121,7 +128,7 @@ returns-5 c =
     (pattern-passed (c .before .before .before .before .before .before .before .before))
     (le-leb _ _ (c .before .before .before .before .before .before .if3 .left))
     (gates-passed (c .before .before .before .before))
-    (ap (λ (k : ℕ). allBelow (inputs ws + gates ws) (take k (drop (8 + 8 * gates ws) ws))) (sym z) ∙ sym (c .all-below .ensures)))
+    (outputs-are c))
 
 pub rest-sound-spec : {M : Type 1} → statement M
 rest-sound-spec =

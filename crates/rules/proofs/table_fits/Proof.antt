@@ -1,8 +1,6 @@
 -- `rules::table_fits` meets its contract: 2^2^count is the arm's constant. Assumes nothing.
-use Prim.Native.Nat.{ℕ, _^_}
-use mathlib.Core.Path.{_≡_, sym, ap}
+use mathlib.Core.Path.{_≡_}
 use native.Mathlib.Omega.{arith}
-use lib.Dec.{ltb}
 use Rattle.rules.proofs.table_fits.Statement.{statement}
 use Rattle.rules.proofs.table_fits.Tie as tie
 
