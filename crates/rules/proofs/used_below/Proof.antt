@@ -1,0 +1,25 @@
+-- `rules::used_below` meets its contract: the used pins stand first. Assumes nothing.
+use Prim.Native.Nat.{ℕ, _-_}
+use mathlib.Core.Path.{_≡_, ap, _∙_}
+use native.Mathlib.Omega.{arith}
+use borrow.Author.Needs.{needs}
+use lib.ListN.{take}
+use Rattle.words.specs.Rules.{allBelow, usedBelow}
+use Rattle.rules.proofs.used_below.Statement.{statement}
+use Rattle.rules.proofs.used_below.Tie as tie
+
+slice-aggregate-all-below : tie.Need-slice-aggregate-all-below
+slice-aggregate-all-below c = search needs
+
+all-below-requires : tie.Need-all-below-requires
+all-below-requires c κs = search needs
+
+returns : tie.Need-returns
+unfolding usedBelow
+returns c =
+    let a = c .before .before .args in
+    let z : a .count - 0 ≡ a .count = omega arith in
+    c .all-below .ensures ∙ ap (λ (n : ℕ). allBelow (a .limit) (take n (a .t3))) z
+
+pub used-below-spec : {M : Type 1} → statement M
+used-below-spec = tie.close (tie.spec slice-aggregate-all-below all-below-requires returns)
