@@ -1,0 +1,1 @@
+// Live readers, counted on the words of an area.
