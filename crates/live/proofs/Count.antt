@@ -2,7 +2,7 @@
 use Prim.Native.Nat.{ℕ, zero, suc, _+_, _-_, _*_, _≤_, _<_}
 use mathlib.Core.Bool.{Bool, true, false, cond}
 use mathlib.Core.List.{List, [], _∷_, _++_}
-use mathlib.Core.Path.{_≡_, refl, sym, ap, ap₂, subst, _∙_}
+use mathlib.Core.Path.{_≡_, refl, sym, ap, ap₂, _∙_}
 use native.Mathlib.Nat.{add-zero, sub-zero, sub-self}
 use native.Mathlib.Numerals.{add-one}
 use native.Mathlib.Omega.{arith}
@@ -11,13 +11,12 @@ use lib.Seq.{take-suc, getD-set-same, getD-set-other}
 use lib.Dec.{eqb}
 use borrow.Author.Tests.{eqb-true, eqb-false}
 use Rattle.figure.specs.Figure.{bitOf}
-use Rattle.netlist.specs.Netlist.{Gate}
 use Rattle.netlist.specs.Live.{count, isLive, withGate, liveReadsFrom, liveReads, readers}
 use Rattle.netlist.proofs.Count.{count-append}
 use Rattle.netlist.proofs.Live.{ifLive, count-with}
 use Rattle.words.specs.Words.{inputs, gates, outputs, pinCount, pins, usedPins, outputWords}
 use Rattle.live.specs.Net.{gatesFrom, netOf}
-use Rattle.live.specs.Counted.{Counts, Added, readsOf}
+use Rattle.live.specs.Counted.{Counts, Added, readsOf, gateReads}
 
 -- xs has at each source how often it stands in rs
 abbrev pub CountsOf : List ℕ → List ℕ → Type 0
@@ -87,7 +86,7 @@ dead-added (suc r) ps counts e l = absurd (omega arith)
 
 -- a turn of the loop over gates
 pub gate-turn : (ws xs ys : List ℕ) (j : ℕ) → j < gates ws → CountsOf xs (readsAfter ws (j + 1))
-    → Added xs (readsOf (getD xs (inputs ws + j) 0) (usedPins ws j)) ys
+    → Added xs (gateReads ws xs j) ys
     → CountsOf ys (readsAfter ws j)
 gate-turn ws xs ys j l h added s =
     let rs = readsAfter ws (j + 1) in

@@ -7,6 +7,7 @@ use lib.ListN.{length, getD}
 use lib.Dec.{leb}
 use Rattle.figure.specs.Figure.{bitOf}
 use Rattle.netlist.specs.Live.{count, isLive}
+use Rattle.words.specs.Words.{inputs, usedPins}
 
 -- counts that take further reads: room for 12 inputs and 1,024 gates, and none above what 64 outputs and four pins a gate come to
 pub record Counts (counts : List ℕ) : Type 0 where
@@ -21,6 +22,10 @@ pub record Added (old rs new : List ℕ) : Type 0 where
 -- what a gate with so many readers reads: nothing if it is dead
 abbrev pub readsOf : ℕ → List ℕ → List ℕ
 readsOf readers pins = cond (isLive readers) pins []
+
+-- what gate j of the words reads, by these counts
+abbrev pub gateReads : List ℕ → List ℕ → ℕ → List ℕ
+gateReads ws counts j = readsOf (getD counts (inputs ws + j) 0) (usedPins ws j)
 
 -- how many of the k sources from s on have a reader
 abbrev pub liveCounted : List ℕ → ℕ → ℕ → ℕ

@@ -1,4 +1,5 @@
-use Prim.Native.Nat.{ℕ, _+_, _*_, _<_}
+-- `live::add_gate` meets its contract: the test is whether the gate is live, and its used pins stand where the words have them. Assumes nothing.
+use Prim.Native.Nat.{ℕ, _+_}
 use native.Mathlib.Omega.{arith}
 use lib.ListN.{getD}
 use Rattle.words.specs.Words.{inputs, usedPins}
@@ -56,7 +57,7 @@ returns : tie.Need-returns
 returns c =
     let start = c .before .before .before .before .before .before .before in
     let ws = start .args .area .now in
-    let xs = start .args .counts .now in
+    let xs = start .args .readers .now in
     let j = start .args .gate in
     live-added
     (getD xs (inputs ws + j) 0)
@@ -70,7 +71,7 @@ returns-2 : tie.Need-returns-2
 returns-2 c =
     let start = c .before .before .before .before in
     let ws = start .args .area .now in
-    let xs = start .args .counts .now in
+    let xs = start .args .readers .now in
     let j = start .args .gate in
     dead-added (getD xs (inputs ws + j) 0) (usedPins ws j) xs (omega (arith, c .if1 .left)) (start .pre .1 .long)
 

@@ -1,25 +1,25 @@
+-- `live::add_reads` meets its contract: after i turns the first i reads have been added. Assumes nothing.
 use Prim.Native.Nat.{ℕ, _+_, _-_, _≤_, _<_}
-use mathlib.Core.Path.{_≡_}
-use native.Mathlib.Omega.{arith}
-use lib.ListN.{length, getD, take, drop}
-use Rattle.netlist.specs.Live.{count}
-use lib.Seq.{getD-drop}
-use lib.ListN.{length-set, length-take, length-drop}
-use Rattle.live.proofs.Count.{read-turn, count-length}
-use mathlib.Core.Path.{sym}
+use mathlib.Core.Path.{_≡_, sym}
 use native.Mathlib.Nat.{add-zero}
+use native.Mathlib.Omega.{arith}
+use lib.ListN.{length, getD, take, drop, length-set, length-take, length-drop}
+use lib.Seq.{getD-drop}
+use Rattle.netlist.specs.Live.{count}
+use Rattle.live.proofs.Count.{read-turn, count-length}
 use borrow.Author.Needs.{needs}
 use Rattle.live.proofs.add_reads.Statement.{statement}
 use Rattle.live.proofs.add_reads.Tie as tie
 
 abbrev Inv-loop : tie.InvT-loop
-Inv-loop counts₀ area start many i₀ counts i = (i ≤ many) × (length counts ≡ 1036) × ((s : ℕ) → getD counts s 0 ≡ getD counts₀ s 0 + count s (take i (drop start area)))
+Inv-loop readers₀ area start many i₀ readers i =
+    (i ≤ many) × (length readers ≡ 1036) × ((s : ℕ) → getD readers s 0 ≡ getD readers₀ s 0 + count s (take i (drop start area)))
 
 abbrev μ-loop : tie.MeasureT-loop
-μ-loop counts₀ area start many i₀ counts i = many - i
+μ-loop readers₀ area start many i₀ readers i = many - i
 
 loop-holds : tie.Need-loop-holds Inv-loop μ-loop
-loop-holds c = (omega arith, c .pre .1 .1 .0 .long, λ s. sym (add-zero (getD (c .args .counts .now) s 0)))
+loop-holds c = (omega arith, c .pre .1 .1 .0 .long, λ s. sym (add-zero (getD (c .args .readers .now) s 0)))
 
 add-source : tie.Need-add-source Inv-loop μ-loop
 add-source c = search needs
@@ -33,14 +33,14 @@ shared-slice-read-source c = search needs
 cast-source : tie.Need-cast-source Inv-loop μ-loop
 cast-source c = omega (arith, c .before .before .before .pre .1 .0 (c .before .before .loop .i) (omega arith))
 
-mul-counts : tie.Need-mul-counts Inv-loop μ-loop
-mul-counts c = omega (arith, c .before .before .before .pre .1 .0 (c .before .before .loop .i) (omega arith))
+mul-readers : tie.Need-mul-readers Inv-loop μ-loop
+mul-readers c = omega (arith, c .before .before .before .pre .1 .0 (c .before .before .loop .i) (omega arith))
 
-element-copy-out-counts : tie.Need-element-copy-out-counts Inv-loop μ-loop
-element-copy-out-counts c = c .before .before .before .pre .1 .0 (c .before .before .loop .i) (omega arith)
+element-copy-out-readers : tie.Need-element-copy-out-readers Inv-loop μ-loop
+element-copy-out-readers c = c .before .before .before .pre .1 .0 (c .before .before .loop .i) (omega arith)
 
-add-counts : tie.Need-add-counts Inv-loop μ-loop
-add-counts c =
+add-readers : tie.Need-add-readers Inv-loop μ-loop
+add-readers c =
     let l = c .before .before .before .loop in
     let start = c .before .before .before .before in
     let reads = drop (start .args .start) (start .args .area .now) in
@@ -54,8 +54,8 @@ add-counts c =
       start .pre .1 .1 .1,
     )
 
-element-write-counts : tie.Need-element-write-counts Inv-loop μ-loop
-element-write-counts c = c .before .before .before .before .pre .1 .0 (c .before .before .before .loop .i) (omega arith)
+element-write-readers : tie.Need-element-write-readers Inv-loop μ-loop
+element-write-readers c = c .before .before .before .before .pre .1 .0 (c .before .before .before .loop .i) (omega arith)
 
 add-i : tie.Need-add-i Inv-loop μ-loop
 add-i c = search needs
@@ -73,8 +73,8 @@ loop-again c =
       omega arith,
       simp length-set (l .inv .1),
       read-turn
-          (start .args .counts .now)
-          (l .counts)
+          (start .args .readers .now)
+          (l .readers)
           reads
           (l .i)
           source
@@ -101,10 +101,10 @@ add-reads-spec =
     mul-source
     shared-slice-read-source
     cast-source
-    mul-counts
-    element-copy-out-counts
-    add-counts
-    element-write-counts
+    mul-readers
+    element-copy-out-readers
+    add-readers
+    element-write-readers
     add-i
     loop-less
     loop-again

@@ -1,5 +1,6 @@
-use Prim.Native.Nat.{ℕ, _+_, _-_, _*_, _≤_, _<_}
-use mathlib.Core.Path.{_≡_, sym, subst}
+-- `live::count_readers` meets its contract: the reads by the outputs and by the live ones of the gates passed are counted. Assumes nothing.
+use Prim.Native.Nat.{ℕ, _+_, _-_, _≤_}
+use mathlib.Core.Path.{_≡_, subst}
 use native.Mathlib.Nat.{le-refl}
 use native.Mathlib.Omega.{arith}
 use lib.ListN.{length}
@@ -11,10 +12,10 @@ use Rattle.live.proofs.count_readers.Statement.{statement}
 use Rattle.live.proofs.count_readers.Tie as tie
 
 abbrev Inv-loop : tie.InvT-loop
-Inv-loop area gate₀ counts₀ gate counts = (gate ≤ gates area) × (length counts ≡ 1036) × CountsOf counts (readsAfter area gate)
+Inv-loop area gate₀ readers₀ gate readers = (gate ≤ gates area) × (length readers ≡ 1036) × CountsOf readers (readsAfter area gate)
 
 abbrev μ-loop : tie.MeasureT-loop
-μ-loop area gate₀ counts₀ gate counts = gate
+μ-loop area gate₀ readers₀ gate readers = gate
 
 shared-slice-read-gate : tie.Need-shared-slice-read-gate Inv-loop μ-loop
 shared-slice-read-gate c = search needs
@@ -53,7 +54,7 @@ add-gate-requires c κs =
     let l = c .before .before .loop in
     let start = c .before .before .before .before .before .before .before .before in
     let sound = start .pre in
-    ((sound, omega arith), few-reads (start .args .area .now) (l .counts) (l .gate) (sound .gates-fit) (sound .outputs-fit) (l .inv .1) (l .inv .2))
+    ((sound, omega arith), few-reads (start .args .area .now) (l .readers) (l .gate) (sound .gates-fit) (sound .outputs-fit) (l .inv .1) (l .inv .2))
 
 loop-less : tie.Need-loop-less Inv-loop μ-loop
 loop-less c = search needs
@@ -67,11 +68,11 @@ loop-again c =
       c .add-gate .ensures .long,
       gate-turn
           ws
-          (l .counts)
+          (l .readers)
           (c .add-gate .last .0)
           (l .gate - 1)
           (omega arith)
-          (subst (λ (g : ℕ). CountsOf (l .counts) (readsAfter ws g)) same (l .inv .2))
+          (subst (λ (g : ℕ). CountsOf (l .readers) (readsAfter ws g)) same (l .inv .2))
           (c .add-gate .ensures),
     )
 
@@ -80,7 +81,7 @@ returns c =
     let l = c .before .loop in
     let ws = c .before .before .before .before .before .before .before .args .area .now in
     let end : l .gate ≡ 0 = omega arith in
-    all-reads ws (l .counts) (subst (λ (g : ℕ). CountsOf (l .counts) (readsAfter ws g)) end (l .inv .2))
+    all-reads ws (l .readers) (subst (λ (g : ℕ). CountsOf (l .readers) (readsAfter ws g)) end (l .inv .2))
 
 pub count-readers-spec : {M : Type 1} → statement M
 count-readers-spec =

@@ -1,4 +1,5 @@
-use Prim.Native.Nat.{ℕ, _+_, _-_, _≤_, _<_}
+-- `live::first_shared` meets its contract: none of the gates passed is shared, so the search goes on in what is left. Assumes nothing.
+use Prim.Native.Nat.{ℕ, _+_, _-_, _≤_}
 use mathlib.Core.Path.{_≡_}
 use native.Mathlib.Nat.{zero-add, add-zero, sub-zero}
 use native.Mathlib.Omega.{arith}
@@ -9,10 +10,11 @@ use Rattle.live.proofs.first_shared.Statement.{statement}
 use Rattle.live.proofs.first_shared.Tie as tie
 
 abbrev Inv-loop : tie.InvT-loop
-Inv-loop counts inputs gates gate₀ gate = (gate ≤ gates) × (gate + sharedCounted counts (inputs + gate) (gates - gate) ≡ sharedCounted counts inputs gates)
+Inv-loop readers inputs gates gate₀ gate =
+    (gate ≤ gates) × (gate + sharedCounted readers (inputs + gate) (gates - gate) ≡ sharedCounted readers inputs gates)
 
 abbrev μ-loop : tie.MeasureT-loop
-μ-loop counts inputs gates gate₀ gate = gates - gate
+μ-loop readers inputs gates gate₀ gate = gates - gate
 
 loop-holds : tie.Need-loop-holds Inv-loop μ-loop
 loop-holds c = (omega arith, simp (zero-add, add-zero, sub-zero))
@@ -30,7 +32,7 @@ returns : tie.Need-returns Inv-loop μ-loop
 returns c =
     let l = c .before .before .before .loop in
     let a = c .before .before .before .before .args in
-    omega (arith, shared-here (a .counts .now) (a .inputs) (l .gate) (a .gates) (omega arith) (c .if1 .taken))
+    omega (arith, shared-here (a .readers .now) (a .inputs) (l .gate) (a .gates) (omega arith) (c .if1 .taken))
 
 add-gate : tie.Need-add-gate Inv-loop μ-loop
 add-gate c = search needs
@@ -42,7 +44,7 @@ loop-again : tie.Need-loop-again Inv-loop μ-loop
 loop-again c =
     let l = c .before .before .before .loop in
     let a = c .before .before .before .before .args in
-    let later = shared-later (a .counts .now) (a .inputs) (l .gate) (a .gates) (omega arith) (omega (arith, c .if1 .left)) in
+    let later = shared-later (a .readers .now) (a .inputs) (l .gate) (a .gates) (omega arith) (omega (arith, c .if1 .left)) in
     (omega arith, omega arith)
 
 returns-2 : tie.Need-returns-2 Inv-loop μ-loop
@@ -50,7 +52,7 @@ returns-2 c =
     let l = c .before .loop in
     let a = c .before .before .args in
     let end : l .gate ≡ a .gates = omega arith in
-    omega (arith, rw end at (l .inv .1), shared-end (a .counts .now) (a .inputs + a .gates) (a .gates))
+    omega (arith, rw end at (l .inv .1), shared-end (a .readers .now) (a .inputs + a .gates) (a .gates))
 
 pub first-shared-spec : {M : Type 1} → statement M
 first-shared-spec =
