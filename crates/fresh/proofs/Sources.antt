@@ -13,7 +13,7 @@ use Rattle.figure.specs.Figure.{outputStep, failureOf, gateWord}
 use Rattle.words.specs.Words.{inputs, gates, pattern, table, flip, figure, usedPins, outputWords, sourceWord}
 use Rattle.words.specs.Rules.{Sound}
 use Rattle.words.specs.Work.{gateFigure, workGate, productFrom, reliabilityNow}
-use Rattle.words.proofs.Frame.{SameNet, same-inputs, same-gates, same-table, same-used-pins, same-output-words, same-work-gate, work-gate-other}
+use Rattle.words.proofs.Frame.{SameFrame, same-inputs, same-gates, same-table, same-used-pins, same-output-words, same-work-gate, work-gate-other}
 use Rattle.words.proofs.Sound.{used-pin-below, output-below}
 
 pub map-same : {B : Type 0} (f h : ℕ → B) (xs : List ℕ) → ((i : ℕ) → i < length xs → f (getD xs i 0) ≡ h (getD xs i 0)) → map f xs ≡ map h xs
@@ -49,7 +49,7 @@ source-same ws vs n s bit word =
     ap (sourceWord vs) (e ∙ ap (λ (k : ℕ). k + j) (sym n)) ∙ source-gate vs j ∙ word j e ∙ sym (source-gate ws j) ∙ ap (sourceWord ws) (sym e))
 
 -- a gate's figure comes from its table, its flip and the words of the sources that it reads
-pub gate-figure-same : (ws vs : List ℕ) → SameNet ws vs → (j : ℕ) → flip vs j ≡ flip ws j
+pub gate-figure-same : (ws vs : List ℕ) → SameFrame ws vs → (j : ℕ) → flip vs j ≡ flip ws j
     → ((i : ℕ) → i < length (usedPins ws j) → sourceWord vs (getD (usedPins ws j) i 0) ≡ sourceWord ws (getD (usedPins ws j) i 0))
     → gateFigure vs j ≡ gateFigure ws j
 unfolding gateFigure
@@ -59,7 +59,7 @@ gate-figure-same ws vs same j p h =
     ∙ ap (λ (xs : List ℕ). gateWord unitsInOne (table ws j) xs (flip ws j)) (map-same (sourceWord vs) (sourceWord ws) (usedPins ws j) h)
 
 -- which are earlier ones
-pub gate-figure-earlier : (ws vs : List ℕ) → Sound ws → SameNet ws vs → (j : ℕ) → j < gates ws → flip vs j ≡ flip ws j
+pub gate-figure-earlier : (ws vs : List ℕ) → Sound ws → SameFrame ws vs → (j : ℕ) → j < gates ws → flip vs j ≡ flip ws j
     → ((s : ℕ) → s < inputs ws + j → sourceWord vs s ≡ sourceWord ws s) → gateFigure vs j ≡ gateFigure ws j
 gate-figure-earlier ws vs sound same j l p h =
     gate-figure-same ws vs same j p (λ i k. h (getD (usedPins ws j) i 0) (used-pin-below ws sound j l i k))
@@ -72,7 +72,7 @@ product-same ws vs s (o ∷ os) h =
     ∙ product-same ws vs (outputStep unitsInOne s (failureOf (sourceWord ws o))) os (λ i l. h (suc i) (omega arith))
 
 -- the reliability comes from the words of the outputs' sources
-pub reliability-same : (ws vs : List ℕ) → Sound ws → SameNet ws vs → ((s : ℕ) → s < inputs ws + gates ws → sourceWord vs s ≡ sourceWord ws s)
+pub reliability-same : (ws vs : List ℕ) → Sound ws → SameFrame ws vs → ((s : ℕ) → s < inputs ws + gates ws → sourceWord vs s ≡ sourceWord ws s)
     → reliabilityNow vs ≡ reliabilityNow ws
 unfolding reliabilityNow
 reliability-same ws vs sound same h =

@@ -9,7 +9,7 @@ use lib.ListN.{length, getD}
 use Rattle.words.specs.Words.{inputs, gates, pattern, flip, figure, sourceWord}
 use Rattle.words.specs.Rules.{Sound}
 use Rattle.words.specs.Work.{gateFigure, workGate, workGates, reliabilityNow, workReliability, workAll}
-use Rattle.words.proofs.Frame.{SameNet, same-inputs, same-gates, same-work-gate, same-work-gates, same-work-reliability, work-gate-same, work-gate-other, work-reliability-same, work-reliability-other}
+use Rattle.words.proofs.Frame.{SameFrame, same-inputs, same-gates, same-work-gate, same-work-gates, same-work-reliability, work-gate-same, work-gate-other, work-reliability-same, work-reliability-other}
 use Rattle.words.proofs.Sound.{sound-work-gate, sound-work-gates}
 use Rattle.fresh.specs.Fresh.{Fresh}
 use Rattle.fresh.proofs.Sources.{source-same, gate-figure-earlier, reliability-same, source-work-gate}

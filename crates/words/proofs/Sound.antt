@@ -16,20 +16,20 @@ use Rattle.figure.proofs.Laws.{failure-at-most, output-at-most}
 use Rattle.words.specs.Words.{inputs, gates, outputs, pattern, reliabilityWord, pinCount, table, pins, flip, figure, usedPins, outputWords, needed, sourceWord}
 use Rattle.words.specs.Rules.{largestFigure, GateSound, Sound}
 use Rattle.words.specs.Work.{gateFigure, workGate, workGates, productFrom, reliabilityNow, workReliability, workAll, readsMarked, workIf, markIf, workMarked, markOf, invertBit, toggleWords, setWords}
-use Rattle.words.proofs.Frame.{SameNet, same-inputs, same-gates, same-outputs, same-pin-count, same-table, same-pins, same-output-words, head-net}
+use Rattle.words.proofs.Frame.{SameFrame, same-inputs, same-gates, same-outputs, same-pin-count, same-table, same-pins, same-output-words, head-frame}
 use Rattle.words.proofs.Frame.{work-gate-same, work-gate-other, work-if-other, work-reliability-same, work-reliability-other}
 use Rattle.words.proofs.Frame.{same-work-gate, same-work-reliability, same-store-pattern, same-store-flip}
 use Rattle.words.proofs.Pattern.{invert-fits}
 
 -- rule 14 speaks of the netlist, and bounds the other words
-pub sound-same : (ws vs : List ℕ) → Sound ws → SameNet ws vs → pattern vs < 2 ^ inputs ws → reliabilityWord vs ≤ unitsInOne
+pub sound-same : (ws vs : List ℕ) → Sound ws → SameFrame ws vs → pattern vs < 2 ^ inputs ws → reliabilityWord vs ≤ unitsInOne
     → ((j : ℕ) → j < gates ws → flip vs j ≤ unitsInOne) → ((j : ℕ) → j < gates ws → figure vs j ≤ largestFigure) → Sound vs
 sound-same ws vs sound same q r flips figures =
     let n = same-inputs ws vs same in
     let g = same-gates ws vs same in
     let k = same-outputs ws vs same in
     let zero-word : (i : ℕ) → 5 ≤ i → i < 8 → getD vs i 0 ≡ getD ws i 0
-    = λ i low high. same .kept i (head-net (gates ws) i high (λ e. omega arith) (λ e. omega arith)) in
+    = λ i low high. same .kept i (head-frame (gates ws) i high (λ e. omega arith) (λ e. omega arith)) in
     record {
       inputs-fit = omega (arith, sound .inputs-fit);
       gates-fit = omega (arith, sound .gates-fit);
