@@ -1,2 +1,7 @@
 pub mod Sources
 pub mod WorkAll
+pub mod Bridge
+pub mod Sweep
+pub mod Calls
+pub mod Unique
+pub mod Marks

@@ -230,6 +230,13 @@ same-work-marked ws marks j k l =
 pub same-work-reliability : (ws : List ℕ) → SameFrame ws (workReliability ws)
 same-work-reliability ws = record { size = work-reliability-length ws; kept = λ i n. work-reliability-other ws i (n .not-reliability) }
 
+pub same-work-all : (ws : List ℕ) → SameFrame ws (workAll ws)
+same-work-all ws =
+    record {
+      size = work-all-length ws;
+      kept = λ i n. work-all-other ws i (n .not-reliability) (λ j from to. n .not-figure j to);
+    }
+
 pub same-store-pattern : (ws : List ℕ) (q : ℕ) → SameFrame ws (set ws 3 q)
 same-store-pattern ws q = record { size = length-set ws 3 q; kept = λ i n. getD-set-other ws 3 i q 0 (n .not-pattern) }
 
