@@ -5,3 +5,4 @@ pub mod Sweep
 pub mod Calls
 pub mod Unique
 pub mod Marks
+pub mod Dependents

@@ -213,6 +213,10 @@ same-trans ws vs us p q =
 pub same-work-gate : (ws : List ℕ) (j : ℕ) → j < gates ws → SameFrame ws (workGate ws j)
 same-work-gate ws j l = record { size = work-gate-length ws j; kept = λ i n. work-gate-other ws j i (n .not-figure j l) }
 
+pub same-work-if : (m : Bool) (ws : List ℕ) (j : ℕ) → j < gates ws → SameFrame ws (workIf m ws j)
+same-work-if true ws j l = same-work-gate ws j l
+same-work-if false ws j l = same-refl ws
+
 pub same-work-gates : (ws : List ℕ) (j k : ℕ) → j + k ≤ gates ws → SameFrame ws (workGates ws j k)
 same-work-gates ws j k l =
     record {
