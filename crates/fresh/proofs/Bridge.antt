@@ -11,15 +11,15 @@ use lib.Dec.{eqb}
 use borrow.Author.Tests.{eq-eqb, ne-eqb}
 use Rattle.rounding.specs.Rounding.{unitsInOne, toUnits}
 use Rattle.figure.specs.Figure.{bitOf, answer, gateFailure, outputStep, rightOf, failureOf, gateWord}
-use Rattle.netlist.specs.Netlist.{Gate, Netlist, gateAt, pinValues, rightValues}
+use Rattle.netlist.specs.Netlist.{Gate, Netlist, pinValues, rightValues}
 use Rattle.netlist.specs.Figures.{pinFailures, failures, reliabilityFrom, reliability}
 use Rattle.netlist.proofs.Values.{right-input, right-gate, rightStep}
 use Rattle.netlist.proofs.Failures.{failure-input, failure-gate, failureStep}
-use Rattle.words.specs.Words.{inputs, gates, pattern, reliabilityWord, table, flip, figure, usedPins, outputWords, sourceWord}
+use Rattle.words.specs.Words.{inputs, gates, pattern, reliabilityWord, table, flip, usedPins, outputWords, sourceWord}
 use Rattle.words.specs.Rules.{Sound}
 use Rattle.words.specs.Work.{gateFigure, productFrom, reliabilityNow}
 use Rattle.words.proofs.Sound.{used-pin-below, output-below}
-use Rattle.live.specs.Net.{gateOf, netOf}
+use Rattle.live.specs.Net.{netOf}
 use Rattle.live.proofs.Net.{gate-at, gate-count, sound-pins}
 use Rattle.fresh.specs.Fresh.{Fresh, Converted}
 use Rattle.fresh.proofs.Sources.{source-input, source-gate, source-cases}

@@ -1,23 +1,23 @@
 -- Toggling an input and setting a flip keep an area fresh, and change of its pattern, flips and netlist only what they name. Assumes nothing.
-use Prim.Native.Nat.{ℕ, zero, suc, _+_, _-_, _*_, _/_, _%_, _^_, _≤_, _<_}
+use Prim.Native.Nat.{ℕ, suc, _+_, _-_, _*_, _/_, _%_, _^_, _≤_, _<_}
 use mathlib.Core.List.{List}
-use mathlib.Core.Logic.{_≢_}
-use mathlib.Core.Path.{_≡_, refl, sym, ap, subst, _∙_}
-use native.Mathlib.Nat.{add-zero}
+use mathlib.Core.Logic.{_≢_, by-cases}
+use mathlib.Core.Path.{_≡_, sym, ap, _∙_}
+use native.Mathlib.Decide.{ℕ-discrete}
 use native.Mathlib.Omega.{arith}
 use lib.ListN.{length, getD, set, replicate, length-set, length-replicate}
 use lib.Seq.{getD-set-same, getD-set-other}
-use Rattle.rounding.specs.Rounding.{unitsInOne}
+use Rattle.rounding.specs.Rounding.{unitsInOne, toUnits}
 use Rattle.words.specs.Words.{inputs, gates, pattern, flip, figure, sourceWord}
 use Rattle.words.specs.Rules.{Sound}
-use Rattle.words.specs.Work.{gateFigure, workGate, workReliability, workMarked, markOf, invertBit, toggleWords, setWords}
+use Rattle.words.specs.Work.{workGate, workMarked, markOf, invertBit, toggleWords, setWords}
 use Rattle.words.proofs.Frame.{SameFrame, same-inputs, same-gates, same-used-pins, same-table, same-output-words, same-trans, same-store-pattern, same-store-flip}
-use Rattle.words.proofs.Frame.{same-work-gate, same-work-marked, same-work-reliability, work-gate-other, work-marked-other, work-reliability-other, toggle-other, set-other}
+use Rattle.words.proofs.Frame.{same-work-gate, same-work-marked, same-toggle, same-set, work-gate-other, work-marked-other, work-reliability-other, toggle-other, set-other}
 use Rattle.words.proofs.Pattern.{invert-fits, invert-other}
-use Rattle.words.proofs.Sound.{sound-work-gate, sound-work-marked, sound-store-pattern, sound-store-flip, flip-after}
+use Rattle.words.proofs.Sound.{sound-work-gate, sound-work-marked, sound-store-pattern, sound-store-flip}
 use Rattle.live.specs.Net.{netOf}
 use Rattle.live.proofs.Net.{same-net}
-use Rattle.fresh.specs.Fresh.{Fresh}
+use Rattle.fresh.specs.Fresh.{Fresh, Converted}
 use Rattle.fresh.proofs.Sources.{source-same, gate-figure-earlier, source-work-gate}
 use Rattle.fresh.proofs.WorkAll.{FreshBelow, fresh-step, fresh-reliability}
 use Rattle.fresh.proofs.Sweep.{Swept, sweep-fresh}
@@ -42,20 +42,9 @@ frame-net ws vs kinds chances same =
     })
 
 module _ (ws : List ℕ) (i : ℕ) where
-  pub toggle-frame : SameFrame ws (toggleWords ws i)
-  unfolding toggleWords
-  toggle-frame =
-      let q = invertBit (pattern ws) i in
-      let stored = set ws 3 q in
-      let worked = workMarked stored (markOf i) 0 (gates ws) in
-      let count = same-gates ws stored (same-store-pattern ws q) in
-      same-trans ws worked (workReliability worked)
-      (same-trans ws stored worked (same-store-pattern ws q) (same-work-marked stored (markOf i) 0 (gates ws) (omega arith)))
-      (same-work-reliability worked)
-
   -- the netlist and the flips stay, the pattern's bit i is inverted
   pub toggle-net : (kinds chances : List ℕ) → netOf (toggleWords ws i) kinds chances ≡ netOf ws kinds chances
-  toggle-net kinds chances = frame-net ws (toggleWords ws i) kinds chances toggle-frame
+  toggle-net kinds chances = frame-net ws (toggleWords ws i) kinds chances (same-toggle ws i)
 
   pub toggle-flip : (j : ℕ) → flip (toggleWords ws i) j ≡ flip ws j
   toggle-flip j = toggle-other ws i (8 + 8 * j + 6) (λ e. omega arith) (λ e. omega arith) (λ k from to e. omega arith)
@@ -105,24 +94,9 @@ module _ (ws : List ℕ) (i : ℕ) where
       (λ b below. sweep-fresh ws (fresh .figures) stored (markOf i) 0 (gates ws) (omega arith) start b (omega arith))
 
 module _ (ws : List ℕ) (g units : ℕ) (small : g < gates ws) where
-  pub set-frame : SameFrame ws (setWords ws g units)
-  unfolding setWords
-  set-frame =
-      let stored = set ws (8 + 8 * g + 6) units in
-      let first = workGate stored g in
-      let worked = workMarked first (markOf (inputs ws + g)) (suc g) (gates ws - suc g) in
-      let store = same-store-flip ws g units small in
-      let count = same-gates ws stored store in
-      let work = same-work-gate stored g (omega arith) in
-      let again = same-gates stored first work in
-      same-trans ws worked (workReliability worked)
-      (same-trans ws first worked (same-trans ws stored first store work)
-      (same-work-marked first (markOf (inputs ws + g)) (suc g) (gates ws - suc g) (omega arith)))
-      (same-work-reliability worked)
-
   -- the netlist and the pattern stay, and every flip but gate g's
   pub set-net : (kinds chances : List ℕ) → netOf (setWords ws g units) kinds chances ≡ netOf ws kinds chances
-  set-net kinds chances = frame-net ws (setWords ws g units) kinds chances set-frame
+  set-net kinds chances = frame-net ws (setWords ws g units) kinds chances (same-set ws g units small)
 
   pub set-pattern : pattern (setWords ws g units) ≡ pattern ws
   set-pattern = set-other ws g units 3 small (λ e. omega arith) (λ e. omega arith) (λ k from to e. omega arith)
@@ -197,3 +171,29 @@ module _ (ws : List ℕ) (g units : ℕ) (small : g < gates ws) where
       let again = same-gates first worked (same-work-marked first marks (suc g) left (omega arith)) in
       fresh-reliability worked (sound-work-marked first marks (suc g) left (start .sound) (omega arith))
       (λ b below. sweep-fresh ws (fresh .figures) first marks (suc g) left (omega arith) start b (omega arith))
+
+-- ---- chances
+
+-- the flips stay a netlist's chances in units; one that is set is the new chance in units
+pub toggle-converted : (d : ℕ) (ws chances : List ℕ) (i : ℕ) → Converted d ws chances → Converted d (toggleWords ws i) chances
+toggle-converted d ws chances i converted =
+    record { flips = λ j l. toggle-flip ws i j ∙ converted .flips j (omega (arith, same-gates ws (toggleWords ws i) (same-toggle ws i))) }
+
+pub set-converted : (d : ℕ) (ws chances : List ℕ) (g c : ℕ) → Sound ws → g < gates ws → g < length chances → Converted d ws chances
+    → Converted d (setWords ws g (toUnits unitsInOne d c)) (set chances g c)
+set-converted d ws chances g c sound small long converted =
+    let units = toUnits unitsInOne d c in
+    let after = setWords ws g units in
+    record {
+      flips =
+          λ j l.
+          by-cases (ℕ-discrete j g)
+          (λ e.
+          ap (flip after) e
+          ∙ set-flip ws g units small sound
+          ∙ sym (ap (λ (t : ℕ). toUnits unitsInOne d (getD (set chances g c) t 0)) e ∙ ap (toUnits unitsInOne d) (getD-set-same chances g c 0 long)))
+          (λ other.
+          set-flip-other ws g units small j other
+          ∙ converted .flips j (omega (arith, same-gates ws after (same-set ws g units small)))
+          ∙ ap (toUnits unitsInOne d) (sym (getD-set-other chances g j c 0 other)));
+    }

@@ -1,12 +1,12 @@
 -- Toggling an input and setting a flip work out exactly the gates that depend on it, in order; a gate that does not keeps all its words. Assumes nothing.
 use Prim.Native.Nat.{ℕ, zero, suc, _+_, _-_, _*_, _≤_, _<_}
-use mathlib.Core.Bool.{Bool, true, false}
+use mathlib.Core.Bool.{Bool, true, false, false≢true}
 use mathlib.Core.List.{List}
 use mathlib.Core.Logic.{_≢_, _↔_, _⊎_, inl, inr, ⊎-elim}
 use mathlib.Core.Path.{_≡_, refl, sym, ap, ap₂, subst, _∙_}
 use native.Mathlib.Nat.{zero-add, add-zero, suc-add}
 use native.Mathlib.Omega.{arith}
-use lib.ListN.{length, getD, set}
+use lib.ListN.{getD, set}
 use lib.Seq.{getD-set-other}
 use lib.Dec.{eqb}
 use borrow.Author.Tests.{eqb-true, eq-eqb}
@@ -20,15 +20,15 @@ use Rattle.words.proofs.Frame.{same-work-gate, same-work-if, same-store-pattern
 use Rattle.live.specs.Net.{netOf}
 use Rattle.live.proofs.Net.{sound-pins}
 use Rattle.fresh.specs.Fresh.{marksFrom, workChosen}
-use Rattle.fresh.proofs.Marks.{Marked, true-not-false, reads-depends, mark-next, toggle-mark, set-mark, toggle-marks, set-marks}
+use Rattle.fresh.proofs.Marks.{Marked, reads-depends, mark-next, toggle-mark, set-mark, toggle-marks, set-marks}
 
 -- ---- the chosen gates
 
 -- two answers that mean the same are equal
 same-answer : (a b : Bool) {P : Type 0} → (a ≡ true) ↔ P → (b ≡ true) ↔ P → a ≡ b
 same-answer true true p q = refl
-same-answer true false p q = absurd (true-not-false (sym (q .1 (p .0 refl))))
-same-answer false true p q = absurd (true-not-false (sym (p .1 (q .0 refl))))
+same-answer true false p q = absurd (false≢true (q .1 (p .0 refl)))
+same-answer false true p q = absurd (false≢true (p .1 (q .0 refl)))
 same-answer false false p q = refl
 
 -- a gate that is not chosen keeps its words

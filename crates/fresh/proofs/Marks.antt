@@ -1,6 +1,6 @@
 -- Marks mean dependence: from a marked source on, a gate comes to be marked exactly if it depends on that source. Assumes nothing.
-use Prim.Native.Nat.{ℕ, zero, suc, _+_, _-_, _*_, _≤_, _<_}
-use mathlib.Core.Bool.{Bool, true, false, _||_}
+use Prim.Native.Nat.{ℕ, zero, suc, _+_, _-_, _≤_, _<_}
+use mathlib.Core.Bool.{Bool, true, false, _||_, true≢false, false≢true}
 use mathlib.Core.List.{List, [], _∷_}
 use mathlib.Core.Logic.{_≢_, _↔_, _⊎_, inl, inr, ⊎-elim, by-cases}
 use mathlib.Core.Path.{_≡_, refl, sym, ap, subst, _∙_}
@@ -9,7 +9,7 @@ use native.Mathlib.Omega.{arith}
 use lib.ListN.{length, getD, set, replicate, length-set}
 use lib.Seq.{getD-set-same, getD-set-other}
 use lib.Dec.{eqb}
-use borrow.Author.Tests.{eqb-true, eq-eqb}
+use borrow.Author.Tests.{eqb-true}
 use Rattle.netlist.specs.Netlist.{Gate, Netlist, gateAt}
 use Rattle.netlist.specs.Live.{count, Depends, reads, reads-further}
 use Rattle.netlist.proofs.Count.{count-at, count-index, below-count}
@@ -24,12 +24,9 @@ use Rattle.fresh.specs.Fresh.{marksFrom}
 use Rattle.fresh.proofs.Sweep.{none-marked}
 use Rattle.fresh.proofs.Calls.{mark-room, mark-set}
 
-pub true-not-false : true ≡ false → ⊥
-true-not-false e = let z : _≡_ {A = ℕ} 0 1 = cc in omega arith
-
 -- pins read a marked source exactly if one of them is marked
 some-marked : (marks ps : List ℕ) → readsMarked marks ps ≡ true → (p : ℕ) × (0 < count p ps) × (getD marks p 0 ≡ 1)
-some-marked marks [] e = absurd (true-not-false (sym e))
+some-marked marks [] e = absurd (false≢true e)
 some-marked marks (p ∷ ps) e = go (eqb (getD marks p 0) 1) refl e (some-marked marks ps)
   where
     go : (c : Bool) → eqb (getD marks p 0) 1 ≡ c → (c || readsMarked marks ps) ≡ true
@@ -153,7 +150,7 @@ module _ (ws kinds chances : List ℕ) (sound : Sound ws) (t : ℕ) where
         all =
             λ s k d.
             by-cases (ℕ-discrete s s₀)
-            (λ q. absurd (true-not-false (sym (reads-depends marks j l before .1 (subst (λ (x : ℕ). Depends (netOf ws kinds chances) x t) q d)) ∙ e)))
+            (λ q. absurd (true≢false (sym (reads-depends marks j l before .1 (subst (λ (x : ℕ). Depends (netOf ws kinds chances) x t) q d)) ∙ e)))
             (λ ne. before .all s (omega arith) d);
         later = λ s k. before .later s (omega arith);
       }

@@ -1,9 +1,9 @@
 -- What a gate's figure and the reliability are worked out from: two areas that agree there work out the same. Assumes nothing.
-use Prim.Native.Nat.{ℕ, zero, suc, _+_, _-_, _*_, _/_, _%_, _^_, _≤_, _<_}
+use Prim.Native.Nat.{ℕ, suc, _+_, _-_, _*_, _/_, _%_, _^_, _≤_, _<_}
 use mathlib.Core.Bool.{Bool, true, false, cond}
 use mathlib.Core.List.{List, [], _∷_, map}
 use mathlib.Core.Logic.{_≢_}
-use mathlib.Core.Path.{_≡_, refl, sym, ap, ap₂, subst, _∙_}
+use mathlib.Core.Path.{_≡_, refl, sym, ap, ap₂, _∙_}
 use native.Mathlib.Omega.{arith}
 use lib.ListN.{length, getD}
 use lib.Dec.{ltb}
@@ -13,7 +13,7 @@ use Rattle.figure.specs.Figure.{outputStep, failureOf, gateWord}
 use Rattle.words.specs.Words.{inputs, gates, pattern, table, flip, figure, usedPins, outputWords, sourceWord}
 use Rattle.words.specs.Rules.{Sound}
 use Rattle.words.specs.Work.{gateFigure, workGate, productFrom, reliabilityNow}
-use Rattle.words.proofs.Frame.{SameFrame, same-inputs, same-gates, same-table, same-used-pins, same-output-words, same-work-gate, work-gate-other}
+use Rattle.words.proofs.Frame.{SameFrame, same-inputs, same-table, same-used-pins, same-output-words, same-work-gate, work-gate-other}
 use Rattle.words.proofs.Sound.{used-pin-below, output-below}
 
 pub map-same : {B : Type 0} (f h : ℕ → B) (xs : List ℕ) → ((i : ℕ) → i < length xs → f (getD xs i 0) ≡ h (getD xs i 0)) → map f xs ≡ map h xs

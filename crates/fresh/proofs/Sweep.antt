@@ -1,7 +1,7 @@
 -- Working out only the gates that read a marked source makes all gates fresh again, where the marks cover what has changed: what an unmarked gate reads is
 -- as it was. Assumes nothing.
-use Prim.Native.Nat.{ℕ, zero, suc, _+_, _*_, _/_, _%_, _^_, _≤_, _<_}
-use mathlib.Core.Bool.{Bool, true, false, _||_}
+use Prim.Native.Nat.{ℕ, zero, suc, _+_, _*_, _≤_, _<_}
+use mathlib.Core.Bool.{Bool, true, false, _||_, true≢false}
 use mathlib.Core.List.{List, [], _∷_}
 use mathlib.Core.Logic.{_≢_, ⊎-elim}
 use mathlib.Core.Path.{_≡_, refl, sym, ap, subst, _∙_}
@@ -27,10 +27,7 @@ none-marked marks (p ∷ ps) e i l = go (eqb (getD marks p 0) 1) refl e i l (non
     go : (c : Bool) → eqb (getD marks p 0) 1 ≡ c → (c || readsMarked marks ps) ≡ false → (i : ℕ) → i < length (p ∷ ps)
         → (readsMarked marks ps ≡ false → (i : ℕ) → i < length ps → getD marks (getD ps i 0) 0 ≢ 1)
         → getD marks (getD (p ∷ ps) i 0) 0 ≢ 1
-    go true t e i l ih = absurd (true-false e)
-      where
-        true-false : true ≡ false → ⊥
-        true-false b = let z : _≡_ {A = ℕ} 0 1 = cc in omega arith
+    go true t e i l ih = absurd (true≢false e)
     go false t e zero l ih = eqb-false (getD marks p 0) 1 t
     go false t e (suc i) l ih = ih e i (omega arith)
 

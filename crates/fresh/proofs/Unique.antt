@@ -12,15 +12,15 @@ use lib.Seq.{getD-set-same, getD-set-other, getD-take, getD-drop, ext-getD}
 use Rattle.rounding.specs.Rounding.{unitsInOne}
 use Rattle.words.specs.Words.{inputs, gates, outputs, pattern, reliabilityWord, pinCount, table, pins, flip, figure, outputWords, needed, sourceWord}
 use Rattle.words.specs.Rules.{Sound}
-use Rattle.words.specs.Work.{gateFigure, workAll, invertBit, toggleWords, setWords}
+use Rattle.words.specs.Work.{workAll, invertBit, toggleWords, setWords}
 use Rattle.words.proofs.Frame.{FrameWord, SameFrame, head-frame, gate-frame, past-frame, same-inputs, same-gates, same-sym, same-trans}
-use Rattle.words.proofs.Frame.{same-work-all, same-store-pattern, same-store-flip, work-all-other}
+use Rattle.words.proofs.Frame.{same-work-all, same-store-pattern, same-store-flip, same-toggle, same-set, work-all-other}
 use Rattle.words.proofs.Pattern.{invert-fits}
-use Rattle.words.proofs.Sound.{sound-work-all, sound-store-pattern, sound-store-flip, flip-after}
+use Rattle.words.proofs.Sound.{sound-work-all, sound-store-pattern, sound-store-flip, sound-toggle, sound-set}
 use Rattle.fresh.specs.Fresh.{Fresh}
 use Rattle.fresh.proofs.Sources.{source-same, gate-figure-earlier, reliability-same}
 use Rattle.fresh.proofs.WorkAll.{work-all-fresh}
-use Rattle.fresh.proofs.Calls.{toggle-frame, toggle-flip, toggle-pattern, toggle-fresh, set-frame, set-pattern, set-flip, set-flip-other, set-fresh}
+use Rattle.fresh.proofs.Calls.{toggle-flip, toggle-pattern, toggle-fresh, set-pattern, set-flip, set-flip-other, set-fresh}
 
 eight-cases : (C : ℕ → Type 0) → C 0 → C 1 → C 2 → C 3 → C 4 → C 5 → C 6 → C 7 → (r : ℕ) → r < 8 → C r
 eight-cases C a b c d e f g h zero l = a
@@ -165,45 +165,60 @@ pub fresh-unique : (ws vs : List ℕ) → Sound ws → Sound vs → Fresh ws →
 fresh-unique ws vs sound-ws sound-vs fresh-ws fresh-vs held flips q =
     areas-equal ws vs sound-ws fresh-ws fresh-vs (held-frame ws vs sound-ws sound-vs held) q flips
 
+-- working out a fresh area changes nothing
+pub fresh-fixed : (ws : List ℕ) → Sound ws → Fresh ws → workAll ws ≡ ws
+fresh-fixed ws sound fresh =
+    areas-equal ws (workAll ws) sound fresh (work-all-fresh ws sound) (same-work-all ws)
+    (work-all-other ws 3 (λ e. omega arith) (λ j from to e. omega arith))
+    (λ j l. work-all-other ws (8 + 8 * j + 6) (λ e. omega arith) (λ k from to e. omega arith))
+
+-- what an area is worked out to does not depend on the figures that it held
+pub work-all-same : (ws vs : List ℕ) → Sound ws → Sound vs → SameFrame ws vs → pattern vs ≡ pattern ws → ((j : ℕ) → j < gates ws → flip vs j ≡ flip ws j)
+    → workAll vs ≡ workAll ws
+work-all-same ws vs sound-ws sound-vs same q flips =
+    let kept : (us : List ℕ) (i : ℕ) → i ≢ 4 → ((j : ℕ) → i ≢ 8 + 8 * j + 7) → getD (workAll us) i 0 ≡ getD us i 0
+    = λ us i four none. work-all-other us i four (λ j from to. none j) in
+    areas-equal (workAll ws) (workAll vs) (sound-work-all ws sound-ws) (work-all-fresh ws sound-ws) (work-all-fresh vs sound-vs)
+    (same-trans (workAll ws) ws (workAll vs) (same-sym ws (workAll ws) (same-work-all ws)) (same-trans ws vs (workAll vs) same (same-work-all vs)))
+    (kept vs 3 (λ e. omega arith) (λ j e. omega arith) ∙ q ∙ sym (kept ws 3 (λ e. omega arith) (λ j e. omega arith)))
+    (λ j l.
+    kept vs (8 + 8 * j + 6) (λ e. omega arith) (λ k e. omega arith)
+    ∙ flips j (omega (arith, same-gates ws (workAll ws) (same-work-all ws)))
+    ∙ sym (kept ws (8 + 8 * j + 6) (λ e. omega arith) (λ k e. omega arith)))
+
+-- a fresh area that has the frame, pattern and flips of another is what that one is worked out to
+pub fresh-is-afresh : (ws vs : List ℕ) → Sound ws → Sound vs → Fresh vs → SameFrame ws vs → pattern vs ≡ pattern ws
+    → ((j : ℕ) → j < gates ws → flip vs j ≡ flip ws j) → vs ≡ workAll ws
+fresh-is-afresh ws vs sound-ws sound-vs fresh same q flips = sym (fresh-fixed vs sound-vs fresh) ∙ work-all-same ws vs sound-ws sound-vs same q flips
+
 pub toggle-is-afresh : (ws : List ℕ) (i : ℕ) → Sound ws → Fresh ws → i < inputs ws → toggleWords ws i ≡ workAll (set ws 3 (invertBit (pattern ws) i))
 toggle-is-afresh ws i sound fresh l =
     let q = invertBit (pattern ws) i in
     let stored = set ws 3 q in
-    let again = workAll stored in
-    let sound-stored = sound-store-pattern ws q sound (invert-fits (pattern ws) i (inputs ws) l (sound .pattern-fits)) in
-    let frame : SameFrame ws again = same-trans ws stored again (same-store-pattern ws q) (same-work-all stored) in
-    areas-equal again (toggleWords ws i) (sound-work-all stored sound-stored) (work-all-fresh stored sound-stored) (toggle-fresh ws i sound fresh l)
-    (same-trans again ws (toggleWords ws i) (same-sym ws again frame) (toggle-frame ws i))
-    (toggle-pattern ws i sound
-    ∙ sym
-    (work-all-other stored 3 (λ e. omega arith) (λ j from to e. omega arith) ∙ getD-set-same ws 3 q 0 (omega (arith, sound .long))))
-    (λ j inside.
-    toggle-flip ws i j
-    ∙ sym
-    (work-all-other stored (8 + 8 * j + 6) (λ e. omega arith) (λ k from to e. omega arith) ∙ getD-set-other ws 3 (8 + 8 * j + 6) q 0 (λ e. omega arith)))
+    let store = same-store-pattern ws q in
+    fresh-is-afresh stored (toggleWords ws i)
+    (sound-store-pattern ws q sound (invert-fits (pattern ws) i (inputs ws) l (sound .pattern-fits)))
+    (sound-toggle ws i sound l)
+    (toggle-fresh ws i sound fresh l)
+    (same-trans stored ws (toggleWords ws i) (same-sym ws stored store) (same-toggle ws i))
+    (toggle-pattern ws i sound ∙ sym (getD-set-same ws 3 q 0 (omega (arith, sound .long))))
+    (λ j inside. toggle-flip ws i j ∙ sym (getD-set-other ws 3 (8 + 8 * j + 6) q 0 (λ e. omega arith)))
 
 pub set-is-afresh : (ws : List ℕ) (g units : ℕ) → Sound ws → Fresh ws → g < gates ws → units ≤ unitsInOne
     → setWords ws g units ≡ workAll (set ws (8 + 8 * g + 6) units)
 set-is-afresh ws g units sound fresh l fits =
     let stored = set ws (8 + 8 * g + 6) units in
-    let again = workAll stored in
-    let sound-stored = sound-store-flip ws g units sound l fits in
-    let frame : SameFrame ws again = same-trans ws stored again (same-store-flip ws g units l) (same-work-all stored) in
-    areas-equal again (setWords ws g units) (sound-work-all stored sound-stored) (work-all-fresh stored sound-stored) (set-fresh ws g units l sound fresh fits)
-    (same-trans again ws (setWords ws g units) (same-sym ws again frame) (set-frame ws g units l))
-    (set-pattern ws g units l
-    ∙ sym
-    (work-all-other stored 3 (λ e. omega arith) (λ j from to e. omega arith) ∙ getD-set-other ws (8 + 8 * g + 6) 3 units 0 (λ e. omega arith)))
+    let store = same-store-flip ws g units l in
+    fresh-is-afresh stored (setWords ws g units)
+    (sound-store-flip ws g units sound l fits)
+    (sound-set ws g units sound l fits)
+    (set-fresh ws g units l sound fresh fits)
+    (same-trans stored ws (setWords ws g units) (same-sym ws stored store) (same-set ws g units l))
+    (set-pattern ws g units l ∙ sym (getD-set-other ws (8 + 8 * g + 6) 3 units 0 (λ e. omega arith)))
     (λ j inside.
     by-cases (ℕ-discrete j g)
     (λ e.
-    subst (λ (t : ℕ). flip (setWords ws g units) t ≡ flip again t) (sym e)
-    (set-flip ws g units l sound
-    ∙ sym
-    (work-all-other stored (8 + 8 * g + 6) (λ e. omega arith) (λ k from to e. omega arith)
-    ∙ getD-set-same ws (8 + 8 * g + 6) units 0 (omega (arith, sound .long)))))
+    subst (λ (t : ℕ). flip (setWords ws g units) t ≡ flip stored t) (sym e)
+    (set-flip ws g units l sound ∙ sym (getD-set-same ws (8 + 8 * g + 6) units 0 (omega (arith, sound .long)))))
     (λ other.
-    set-flip-other ws g units l j other
-    ∙ sym
-    (work-all-other stored (8 + 8 * j + 6) (λ e. omega arith) (λ k from to e. omega arith)
-    ∙ getD-set-other ws (8 + 8 * g + 6) (8 + 8 * j + 6) units 0 (λ e. other (omega arith)))))
+    set-flip-other ws g units l j other ∙ sym (getD-set-other ws (8 + 8 * g + 6) (8 + 8 * j + 6) units 0 (λ e. other (omega arith)))))

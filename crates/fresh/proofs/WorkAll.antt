@@ -2,14 +2,13 @@
 use Prim.Native.Nat.{ℕ, zero, suc, _+_, _*_, _/_, _%_, _^_, _≤_, _<_}
 use mathlib.Core.List.{List}
 use mathlib.Core.Logic.{⊎-elim}
-use mathlib.Core.Path.{_≡_, refl, sym, ap, subst, _∙_}
+use mathlib.Core.Path.{_≡_, sym, ap, _∙_}
 use native.Mathlib.Nat.{eq-or-lt-of-le, le-of-suc-le-suc}
 use native.Mathlib.Omega.{arith}
-use lib.ListN.{length, getD}
-use Rattle.words.specs.Words.{inputs, gates, pattern, flip, figure, sourceWord}
+use Rattle.words.specs.Words.{gates, figure, sourceWord}
 use Rattle.words.specs.Rules.{Sound}
-use Rattle.words.specs.Work.{gateFigure, workGate, workGates, reliabilityNow, workReliability, workAll}
-use Rattle.words.proofs.Frame.{SameFrame, same-inputs, same-gates, same-work-gate, same-work-gates, same-work-reliability, work-gate-same, work-gate-other, work-reliability-same, work-reliability-other}
+use Rattle.words.specs.Work.{gateFigure, workGate, workGates, workReliability, workAll}
+use Rattle.words.proofs.Frame.{same-inputs, same-gates, same-work-gate, same-work-gates, same-work-reliability, work-gate-same, work-gate-other, work-reliability-same, work-reliability-other}
 use Rattle.words.proofs.Sound.{sound-work-gate, sound-work-gates}
 use Rattle.fresh.specs.Fresh.{Fresh}
 use Rattle.fresh.proofs.Sources.{source-same, gate-figure-earlier, reliability-same, source-work-gate}

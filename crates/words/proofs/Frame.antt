@@ -3,12 +3,12 @@ use Prim.Native.Nat.{ℕ, zero, suc, _+_, _-_, _*_, _≤_, _<_}
 use mathlib.Core.Bool.{Bool, true, false}
 use mathlib.Core.List.{List}
 use mathlib.Core.Logic.{_≢_}
-use mathlib.Core.Path.{_≡_, refl, sym, ap, ap₂, subst, _∙_}
+use mathlib.Core.Path.{_≡_, refl, sym, ap₂, subst, _∙_}
 use native.Mathlib.Nat.{add-zero}
 use native.Mathlib.Omega.{arith}
 use lib.ListN.{length, getD, set, take, drop, length-set, length-take, length-drop}
 use lib.Seq.{getD-set-same, getD-set-other, getD-take, getD-drop, ext-getD}
-use Rattle.words.specs.Words.{inputs, gates, outputs, pattern, reliabilityWord, pinCount, table, pins, flip, figure, usedPins, outputWords, needed}
+use Rattle.words.specs.Words.{inputs, gates, outputs, pattern, reliabilityWord, pinCount, table, pins, figure, usedPins, outputWords, needed}
 use Rattle.words.specs.Work.{gateFigure, workGate, workGates, reliabilityNow, workReliability, workAll, readsMarked, workIf, markIf, workMarked, markOf, invertBit, toggleWords, setWords}
 
 -- word i is no figure of a gate from a up to b
@@ -247,3 +247,21 @@ same-store-pattern ws q = record { size = length-set ws 3 q; kept = λ i n. getD
 pub same-store-flip : (ws : List ℕ) (g units : ℕ) → g < gates ws → SameFrame ws (set ws (8 + 8 * g + 6) units)
 same-store-flip ws g units l =
     record { size = length-set ws (8 + 8 * g + 6) units; kept = λ i n. getD-set-other ws (8 + 8 * g + 6) i units 0 (n .not-flip g l) }
+
+pub same-toggle : (ws : List ℕ) (i : ℕ) → SameFrame ws (toggleWords ws i)
+same-toggle ws i =
+    record {
+      size = toggle-length ws i;
+      kept = λ k n. toggle-other ws i k (n .not-pattern) (n .not-reliability) (λ j from to. n .not-figure j to);
+    }
+
+pub same-set : (ws : List ℕ) (g units : ℕ) → g < gates ws → SameFrame ws (setWords ws g units)
+same-set ws g units l =
+    record {
+      size = set-length ws g units;
+      kept = λ k n. set-other ws g units k l (n .not-flip g l) (n .not-reliability) (λ j from to. n .not-figure j to);
+    }
+
+-- so each of these leaves the words past those needed
+pub past-kept : (ws vs : List ℕ) → SameFrame ws vs → (i : ℕ) → needed (gates ws) (outputs ws) ≤ i → getD vs i 0 ≡ getD ws i 0
+past-kept ws vs same i l = same .kept i (past-frame (gates ws) i (omega arith))

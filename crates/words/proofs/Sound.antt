@@ -6,15 +6,15 @@ use mathlib.Core.Logic.{_≢_}
 use mathlib.Core.Path.{_≡_, refl, sym, subst, _∙_}
 use native.Mathlib.Nat.{le-refl}
 use native.Mathlib.Omega.{arith}
-use lib.ListN.{length, getD, set, take, drop, length-take}
+use lib.ListN.{length, getD, set, drop, length-take}
 use lib.Seq.{getD-take, getD-set-same, getD-set-other}
 use lib.Dec.{ltb, eqb}
 use borrow.Author.Tests.{ltb-false, eqb-true, eqb-false}
 use Rattle.rounding.specs.Rounding.{unitsInOne}
-use Rattle.figure.specs.Figure.{bitOf, answer, gateFailure, outputStep, rightOf, failureOf, gateWord}
+use Rattle.figure.specs.Figure.{bitOf, answer, outputStep, rightOf, failureOf, gateWord}
 use Rattle.figure.proofs.Laws.{failure-at-most, output-at-most}
-use Rattle.words.specs.Words.{inputs, gates, outputs, pattern, reliabilityWord, pinCount, table, pins, flip, figure, usedPins, outputWords, needed, sourceWord}
-use Rattle.words.specs.Rules.{largestFigure, GateSound, Sound}
+use Rattle.words.specs.Words.{inputs, gates, outputs, pattern, reliabilityWord, pinCount, table, pins, flip, figure, usedPins, outputWords, sourceWord}
+use Rattle.words.specs.Rules.{largestFigure, Sound}
 use Rattle.words.specs.Work.{gateFigure, workGate, workGates, productFrom, reliabilityNow, workReliability, workAll, readsMarked, workIf, markIf, workMarked, markOf, invertBit, toggleWords, setWords}
 use Rattle.words.proofs.Frame.{SameFrame, same-inputs, same-gates, same-outputs, same-pin-count, same-table, same-pins, same-output-words, head-frame}
 use Rattle.words.proofs.Frame.{work-gate-same, work-gate-other, work-if-other, work-reliability-same, work-reliability-other}
@@ -65,9 +65,6 @@ all-map : (P : ℕ → Type 0) → P 0 → (f : ℕ → ℕ) (xs : List ℕ) →
 all-map P z f [] h i = z
 all-map P z f (x ∷ xs) h zero = h 0 (omega arith)
 all-map P z f (x ∷ xs) h (suc i) = all-map P z f xs (λ k l. h (suc k) (omega arith)) i
-
-half-fits : (w u : ℕ) → w ≤ 2 * u + 1 → w / 2 ≤ u
-half-fits w u h = omega arith
 
 bit-fits : (b : Bool) → bitOf b ≤ 1
 bit-fits true = omega arith
