@@ -3,12 +3,12 @@ use Prim.Native.Nat.{ℕ, zero, suc, _+_, _-_, _*_, _≤_, _<_}
 use mathlib.Core.Bool.{Bool, true, false}
 use mathlib.Core.List.{List}
 use mathlib.Core.Logic.{_≢_}
-use mathlib.Core.Path.{_≡_, refl, sym, ap, ap₂, subst, _∙_}
+use mathlib.Core.Path.{_≡_, refl, sym, ap₂, subst, _∙_}
 use native.Mathlib.Nat.{add-zero}
 use native.Mathlib.Omega.{arith}
 use lib.ListN.{length, getD, set, take, drop, length-set, length-take, length-drop}
 use lib.Seq.{getD-set-same, getD-set-other, getD-take, getD-drop, ext-getD}
-use Rattle.words.specs.Words.{inputs, gates, outputs, pattern, reliabilityWord, pinCount, table, pins, flip, figure, usedPins, outputWords, needed}
+use Rattle.words.specs.Words.{inputs, gates, outputs, pattern, reliabilityWord, pinCount, table, pins, figure, usedPins, outputWords, needed}
 use Rattle.words.specs.Work.{gateFigure, workGate, workGates, reliabilityNow, workReliability, workAll, readsMarked, workIf, markIf, workMarked, markOf, invertBit, toggleWords, setWords}
 
 -- word i is no figure of a gate from a up to b
@@ -121,19 +121,19 @@ set-other ws g units k small stored-there four none =
     ∙ work-gate-other stored g k (none g (omega arith) small)
     ∙ getD-set-other ws (8 + 8 * g + 6) k units 0 stored-there
 
--- ---- areas with the same netlist
+-- ---- areas that differ only in pattern, reliability, flips and figures
 
 -- word i is of the netlist of g gates, or lies past it: not the pattern, nor the reliability, nor a flip or figure of a gate
-pub record NetWord (g i : ℕ) : Type 0 where
+pub record FrameWord (g i : ℕ) : Type 0 where
   pub not-pattern : i ≢ 3
   pub not-reliability : i ≢ 4
   pub not-flip : (j : ℕ) → j < g → i ≢ 8 + 8 * j + 6
   pub not-figure : (j : ℕ) → j < g → i ≢ 8 + 8 * j + 7
 
--- vs has the netlist of ws
-pub record SameNet (ws vs : List ℕ) : Type 0 where
+-- vs has the netlist of ws, and what lies past it
+pub record SameFrame (ws vs : List ℕ) : Type 0 where
   pub size : length vs ≡ length ws
-  pub kept : (i : ℕ) → NetWord (gates ws) i → getD vs i 0 ≡ getD ws i 0
+  pub kept : (i : ℕ) → FrameWord (gates ws) i → getD vs i 0 ≡ getD ws i 0
 
 -- the parts of two lists that agree there
 pub part-same : (ws vs : List ℕ) (a n : ℕ) → length vs ≡ length ws → ((i : ℕ) → i < n → getD vs (a + i) 0 ≡ getD ws (a + i) 0)
@@ -146,12 +146,12 @@ part-same ws vs a n e h =
     getD-take n (drop a vs) i 0 small ∙ getD-drop a vs i 0 ∙ h i small ∙ sym (getD-drop a ws i 0) ∙ sym (getD-take n (drop a ws) i 0 small))
 
 -- the words of the head, and those of a gate, that are of the netlist
-pub head-net : (g i : ℕ) → i < 8 → i ≢ 3 → i ≢ 4 → NetWord g i
-head-net g i l three four =
+pub head-frame : (g i : ℕ) → i < 8 → i ≢ 3 → i ≢ 4 → FrameWord g i
+head-frame g i l three four =
     record { not-pattern = three; not-reliability = four; not-flip = λ j s e. omega arith; not-figure = λ j s e. omega arith }
 
-pub gate-net : (g j r : ℕ) → r < 6 → NetWord g (8 + 8 * j + r)
-gate-net g j r l =
+pub gate-frame : (g j r : ℕ) → r < 6 → FrameWord g (8 + 8 * j + r)
+gate-frame g j r l =
     record {
       not-pattern = λ e. omega arith;
       not-reliability = λ e. omega arith;
@@ -159,8 +159,8 @@ gate-net g j r l =
       not-figure = λ k s e. omega arith;
     }
 
-pub past-net : (g i : ℕ) → 8 + 8 * g ≤ i → NetWord g i
-past-net g i l =
+pub past-frame : (g i : ℕ) → 8 + 8 * g ≤ i → FrameWord g i
+past-frame g i l =
     record {
       not-pattern = λ e. omega arith;
       not-reliability = λ e. omega arith;
@@ -168,26 +168,26 @@ past-net g i l =
       not-figure = λ k s e. omega arith;
     }
 
-module _ (ws vs : List ℕ) (same : SameNet ws vs) where
+module _ (ws vs : List ℕ) (same : SameFrame ws vs) where
   pub same-inputs : inputs vs ≡ inputs ws
-  same-inputs = same .kept 0 (head-net (gates ws) 0 (omega arith) (λ e. omega arith) (λ e. omega arith))
+  same-inputs = same .kept 0 (head-frame (gates ws) 0 (omega arith) (λ e. omega arith) (λ e. omega arith))
 
   pub same-gates : gates vs ≡ gates ws
-  same-gates = same .kept 1 (head-net (gates ws) 1 (omega arith) (λ e. omega arith) (λ e. omega arith))
+  same-gates = same .kept 1 (head-frame (gates ws) 1 (omega arith) (λ e. omega arith) (λ e. omega arith))
 
   pub same-outputs : outputs vs ≡ outputs ws
-  same-outputs = same .kept 2 (head-net (gates ws) 2 (omega arith) (λ e. omega arith) (λ e. omega arith))
+  same-outputs = same .kept 2 (head-frame (gates ws) 2 (omega arith) (λ e. omega arith) (λ e. omega arith))
 
   pub same-pin-count : (j : ℕ) → pinCount vs j ≡ pinCount ws j
-  same-pin-count j = same .kept (8 + 8 * j) (subst (NetWord (gates ws)) (add-zero (8 + 8 * j)) (gate-net (gates ws) j 0 (omega arith)))
+  same-pin-count j = same .kept (8 + 8 * j) (subst (FrameWord (gates ws)) (add-zero (8 + 8 * j)) (gate-frame (gates ws) j 0 (omega arith)))
 
   pub same-table : (j : ℕ) → table vs j ≡ table ws j
-  same-table j = same .kept (8 + 8 * j + 1) (gate-net (gates ws) j 1 (omega arith))
+  same-table j = same .kept (8 + 8 * j + 1) (gate-frame (gates ws) j 1 (omega arith))
 
   pub same-pins : (j : ℕ) → pins vs j ≡ pins ws j
   same-pins j =
       part-same ws vs (8 + 8 * j + 2) 4 (same .size)
-      (λ i l. same .kept (8 + 8 * j + 2 + i) (subst (NetWord (gates ws)) (omega arith) (gate-net (gates ws) j (2 + i) (omega arith))))
+      (λ i l. same .kept (8 + 8 * j + 2 + i) (subst (FrameWord (gates ws)) (omega arith) (gate-frame (gates ws) j (2 + i) (omega arith))))
 
   pub same-used-pins : (j : ℕ) → usedPins vs j ≡ usedPins ws j
   same-used-pins j = ap₂ take (same-pin-count j) (same-pins j)
@@ -195,44 +195,73 @@ module _ (ws vs : List ℕ) (same : SameNet ws vs) where
   pub same-output-words : outputWords vs ≡ outputWords ws
   same-output-words =
       ap₂ (λ (k g : ℕ). take k (drop (8 + 8 * g) vs)) same-outputs same-gates
-      ∙ part-same ws vs (8 + 8 * gates ws) (outputs ws) (same .size) (λ i l. same .kept (8 + 8 * gates ws + i) (past-net (gates ws) _ (omega arith)))
+      ∙ part-same ws vs (8 + 8 * gates ws) (outputs ws) (same .size) (λ i l. same .kept (8 + 8 * gates ws + i) (past-frame (gates ws) _ (omega arith)))
 
-  pub same-sym : SameNet vs ws
-  same-sym = record { size = sym (same .size); kept = λ i n. sym (same .kept i (subst (λ (g : ℕ). NetWord g i) same-gates n)) }
+  pub same-sym : SameFrame vs ws
+  same-sym = record { size = sym (same .size); kept = λ i n. sym (same .kept i (subst (λ (g : ℕ). FrameWord g i) same-gates n)) }
 
-pub same-refl : (ws : List ℕ) → SameNet ws ws
+pub same-refl : (ws : List ℕ) → SameFrame ws ws
 same-refl ws = record { size = refl; kept = λ i n. refl }
 
-pub same-trans : (ws vs us : List ℕ) → SameNet ws vs → SameNet vs us → SameNet ws us
+pub same-trans : (ws vs us : List ℕ) → SameFrame ws vs → SameFrame vs us → SameFrame ws us
 same-trans ws vs us p q =
     record {
       size = q .size ∙ p .size;
-      kept = λ i n. q .kept i (subst (λ (g : ℕ). NetWord g i) (sym (same-gates ws vs p)) n) ∙ p .kept i n;
+      kept = λ i n. q .kept i (subst (λ (g : ℕ). FrameWord g i) (sym (same-gates ws vs p)) n) ∙ p .kept i n;
     }
 
-pub same-work-gate : (ws : List ℕ) (j : ℕ) → j < gates ws → SameNet ws (workGate ws j)
+pub same-work-gate : (ws : List ℕ) (j : ℕ) → j < gates ws → SameFrame ws (workGate ws j)
 same-work-gate ws j l = record { size = work-gate-length ws j; kept = λ i n. work-gate-other ws j i (n .not-figure j l) }
 
-pub same-work-gates : (ws : List ℕ) (j k : ℕ) → j + k ≤ gates ws → SameNet ws (workGates ws j k)
+pub same-work-if : (m : Bool) (ws : List ℕ) (j : ℕ) → j < gates ws → SameFrame ws (workIf m ws j)
+same-work-if true ws j l = same-work-gate ws j l
+same-work-if false ws j l = same-refl ws
+
+pub same-work-gates : (ws : List ℕ) (j k : ℕ) → j + k ≤ gates ws → SameFrame ws (workGates ws j k)
 same-work-gates ws j k l =
     record {
       size = work-gates-length ws j k;
       kept = λ i n. work-gates-other ws j k i (λ m from to. n .not-figure m (omega arith));
     }
 
-pub same-work-marked : (ws marks : List ℕ) (j k : ℕ) → j + k ≤ gates ws → SameNet ws (workMarked ws marks j k)
+pub same-work-marked : (ws marks : List ℕ) (j k : ℕ) → j + k ≤ gates ws → SameFrame ws (workMarked ws marks j k)
 same-work-marked ws marks j k l =
     record {
       size = work-marked-length ws marks j k;
       kept = λ i n. work-marked-other ws marks j k i (λ m from to. n .not-figure m (omega arith));
     }
 
-pub same-work-reliability : (ws : List ℕ) → SameNet ws (workReliability ws)
+pub same-work-reliability : (ws : List ℕ) → SameFrame ws (workReliability ws)
 same-work-reliability ws = record { size = work-reliability-length ws; kept = λ i n. work-reliability-other ws i (n .not-reliability) }
 
-pub same-store-pattern : (ws : List ℕ) (q : ℕ) → SameNet ws (set ws 3 q)
+pub same-work-all : (ws : List ℕ) → SameFrame ws (workAll ws)
+same-work-all ws =
+    record {
+      size = work-all-length ws;
+      kept = λ i n. work-all-other ws i (n .not-reliability) (λ j from to. n .not-figure j to);
+    }
+
+pub same-store-pattern : (ws : List ℕ) (q : ℕ) → SameFrame ws (set ws 3 q)
 same-store-pattern ws q = record { size = length-set ws 3 q; kept = λ i n. getD-set-other ws 3 i q 0 (n .not-pattern) }
 
-pub same-store-flip : (ws : List ℕ) (g units : ℕ) → g < gates ws → SameNet ws (set ws (8 + 8 * g + 6) units)
+pub same-store-flip : (ws : List ℕ) (g units : ℕ) → g < gates ws → SameFrame ws (set ws (8 + 8 * g + 6) units)
 same-store-flip ws g units l =
     record { size = length-set ws (8 + 8 * g + 6) units; kept = λ i n. getD-set-other ws (8 + 8 * g + 6) i units 0 (n .not-flip g l) }
+
+pub same-toggle : (ws : List ℕ) (i : ℕ) → SameFrame ws (toggleWords ws i)
+same-toggle ws i =
+    record {
+      size = toggle-length ws i;
+      kept = λ k n. toggle-other ws i k (n .not-pattern) (n .not-reliability) (λ j from to. n .not-figure j to);
+    }
+
+pub same-set : (ws : List ℕ) (g units : ℕ) → g < gates ws → SameFrame ws (setWords ws g units)
+same-set ws g units l =
+    record {
+      size = set-length ws g units;
+      kept = λ k n. set-other ws g units k l (n .not-flip g l) (n .not-reliability) (λ j from to. n .not-figure j to);
+    }
+
+-- so each of these leaves the words past those needed
+pub past-kept : (ws vs : List ℕ) → SameFrame ws vs → (i : ℕ) → needed (gates ws) (outputs ws) ≤ i → getD vs i 0 ≡ getD ws i 0
+past-kept ws vs same i l = same .kept i (past-frame (gates ws) i (omega arith))

@@ -14,7 +14,7 @@ use Rattle.figure.specs.Figure.{outputStep, failureOf}
 use Rattle.words.specs.Words.{inputs, gates, outputs, pattern, pinCount, pins, usedPins, outputWords, sourceWord}
 use Rattle.words.specs.Rules.{Sound}
 use Rattle.words.specs.Work.{workGate, workGates, productFrom, workReliability, readsMarked, workIf, markIf, workMarked, markOf, invertBit, toggleWords, setWords}
-use Rattle.words.proofs.Frame.{SameNet, same-refl, same-gates, same-work-gate, same-store-pattern, same-store-flip}
+use Rattle.words.proofs.Frame.{same-gates, same-work-gate, same-store-pattern, same-store-flip}
 use Rattle.words.proofs.Sound.{used-pin-below, source-word-fits}
 
 map-at : (f : ℕ → ℕ) (xs : List ℕ) (i : ℕ) → i < length xs → getD (map f xs) i 0 ≡ f (getD xs i 0)
@@ -90,10 +90,6 @@ pub marked-turn : (ws vs marks marks′ : List ℕ) (j m : ℕ) (b : Bool) {targ
 marked-turn ws vs marks marks′ j m b l r e f t =
     let next : m - j ≡ suc (m - (j + 1)) = omega arith in
     rw (e, f, ← r, add-one j) (rw (next, add-one j) at t)
-
-pub same-work-if : (b : Bool) (ws : List ℕ) (j : ℕ) → j < gates ws → SameNet ws (workIf b ws j)
-same-work-if true ws j l = same-work-gate ws j l
-same-work-if false ws j l = same-refl ws
 
 pub mark-if-length : (b : Bool) (marks : List ℕ) (s : ℕ) → length (markIf b marks s) ≡ length marks
 mark-if-length true marks s = length-set marks s 1

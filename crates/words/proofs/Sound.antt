@@ -6,30 +6,30 @@ use mathlib.Core.Logic.{_≢_}
 use mathlib.Core.Path.{_≡_, refl, sym, subst, _∙_}
 use native.Mathlib.Nat.{le-refl}
 use native.Mathlib.Omega.{arith}
-use lib.ListN.{length, getD, set, take, drop, length-take}
+use lib.ListN.{length, getD, set, drop, length-take}
 use lib.Seq.{getD-take, getD-set-same, getD-set-other}
 use lib.Dec.{ltb, eqb}
 use borrow.Author.Tests.{ltb-false, eqb-true, eqb-false}
 use Rattle.rounding.specs.Rounding.{unitsInOne}
-use Rattle.figure.specs.Figure.{bitOf, answer, gateFailure, outputStep, rightOf, failureOf, gateWord}
+use Rattle.figure.specs.Figure.{bitOf, answer, outputStep, rightOf, failureOf, gateWord}
 use Rattle.figure.proofs.Laws.{failure-at-most, output-at-most}
-use Rattle.words.specs.Words.{inputs, gates, outputs, pattern, reliabilityWord, pinCount, table, pins, flip, figure, usedPins, outputWords, needed, sourceWord}
-use Rattle.words.specs.Rules.{largestFigure, GateSound, Sound}
+use Rattle.words.specs.Words.{inputs, gates, outputs, pattern, reliabilityWord, pinCount, table, pins, flip, figure, usedPins, outputWords, sourceWord}
+use Rattle.words.specs.Rules.{largestFigure, Sound}
 use Rattle.words.specs.Work.{gateFigure, workGate, workGates, productFrom, reliabilityNow, workReliability, workAll, readsMarked, workIf, markIf, workMarked, markOf, invertBit, toggleWords, setWords}
-use Rattle.words.proofs.Frame.{SameNet, same-inputs, same-gates, same-outputs, same-pin-count, same-table, same-pins, same-output-words, head-net}
+use Rattle.words.proofs.Frame.{SameFrame, same-inputs, same-gates, same-outputs, same-pin-count, same-table, same-pins, same-output-words, head-frame}
 use Rattle.words.proofs.Frame.{work-gate-same, work-gate-other, work-if-other, work-reliability-same, work-reliability-other}
 use Rattle.words.proofs.Frame.{same-work-gate, same-work-reliability, same-store-pattern, same-store-flip}
 use Rattle.words.proofs.Pattern.{invert-fits}
 
 -- rule 14 speaks of the netlist, and bounds the other words
-pub sound-same : (ws vs : List ℕ) → Sound ws → SameNet ws vs → pattern vs < 2 ^ inputs ws → reliabilityWord vs ≤ unitsInOne
+pub sound-same : (ws vs : List ℕ) → Sound ws → SameFrame ws vs → pattern vs < 2 ^ inputs ws → reliabilityWord vs ≤ unitsInOne
     → ((j : ℕ) → j < gates ws → flip vs j ≤ unitsInOne) → ((j : ℕ) → j < gates ws → figure vs j ≤ largestFigure) → Sound vs
 sound-same ws vs sound same q r flips figures =
     let n = same-inputs ws vs same in
     let g = same-gates ws vs same in
     let k = same-outputs ws vs same in
     let zero-word : (i : ℕ) → 5 ≤ i → i < 8 → getD vs i 0 ≡ getD ws i 0
-    = λ i low high. same .kept i (head-net (gates ws) i high (λ e. omega arith) (λ e. omega arith)) in
+    = λ i low high. same .kept i (head-frame (gates ws) i high (λ e. omega arith) (λ e. omega arith)) in
     record {
       inputs-fit = omega (arith, sound .inputs-fit);
       gates-fit = omega (arith, sound .gates-fit);
@@ -65,9 +65,6 @@ all-map : (P : ℕ → Type 0) → P 0 → (f : ℕ → ℕ) (xs : List ℕ) →
 all-map P z f [] h i = z
 all-map P z f (x ∷ xs) h zero = h 0 (omega arith)
 all-map P z f (x ∷ xs) h (suc i) = all-map P z f xs (λ k l. h (suc k) (omega arith)) i
-
-half-fits : (w u : ℕ) → w ≤ 2 * u + 1 → w / 2 ≤ u
-half-fits w u h = omega arith
 
 bit-fits : (b : Bool) → bitOf b ≤ 1
 bit-fits true = omega arith

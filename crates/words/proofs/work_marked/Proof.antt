@@ -5,9 +5,9 @@ use native.Mathlib.Omega.{arith}
 use lib.ListN.{length, take, drop, set}
 use Rattle.words.specs.Words.{inputs, gates, usedPins}
 use Rattle.words.specs.Rules.{Sound}
-use Rattle.words.proofs.Frame.{same-gates, same-inputs, work-if-length}
+use Rattle.words.proofs.Frame.{same-gates, same-inputs, same-work-if, work-if-length}
 use Rattle.words.proofs.Sound.{sound-work-if}
-use Rattle.words.proofs.Loops.{used-at, pin-source, same-work-if, mark-if-length, marked-turn}
+use Rattle.words.proofs.Loops.{used-at, pin-source, mark-if-length, marked-turn}
 use mathlib.Core.Bool.{Bool, true, false}
 use mathlib.Core.Logic.{⊎-elim}
 use Rattle.words.specs.Work.{readsMarked, workIf, markIf, workMarked}
