@@ -7,7 +7,7 @@ use native.Mathlib.Nat.{add-zero, zero-add}
 use native.Mathlib.Omega.{arith}
 use lib.ListN.{length, getD, take, drop, length-take}
 use lib.Seq.{getD-take, getD-drop, take-take}
-use Rattle.netlist.specs.Netlist.{Gate, Netlist, noGate, gateAt}
+use Rattle.netlist.specs.Netlist.{noGate, gateAt}
 use Rattle.netlist.specs.WellFormed.{Below, PinsBelow, WellFormed}
 use Rattle.netlist.specs.Live.{count, withGate, liveReadsFrom, liveReads, readers, liveAmong, liveGates, firstSharedFrom, firstShared, SingleReaders}
 use Rattle.words.specs.Words.{inputs, gates, outputs, pinCount, table, pins, usedPins, outputWords}

@@ -3,7 +3,7 @@
 // `readers` has an entry for each source, inputs too: 12 inputs and 1,024 gates at the most.
 ghost use mathlib.Core.Path.{_≡_};
 ghost use mathlib.Core.List.{[]};
-ghost use Prim.Native.Nat.{ℕ, _+_, _*_, _<_, _≤_};
+ghost use Prim.Native.Nat.{ℕ, _+_, _<_, _≤_};
 ghost use lib.ListN.{length, getD, take, drop};
 ghost use Rattle.netlist.specs.Live.{readers};
 ghost use Rattle.words.specs.Words.{gates};
