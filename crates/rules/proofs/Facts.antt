@@ -40,19 +40,6 @@ below-passes b [] f = refl
 below-passes b (x ∷ xs) f =
     join (ltb x b) (allBelow b xs) (lt-ltb x b (f 0 (omega arith))) (below-passes b xs (λ i h. f (suc i) (omega arith)))
 
--- the first k of a list
-pub below-first : (b k : ℕ) (xs : List ℕ) → allBelow b (take k xs) ≡ true → (i : ℕ) → i < k → i < length xs → getD xs i 0 < b
-below-first b k xs e i h l =
-    rw (getD-take k xs i 0 h) at (below-holds b (take k xs) e i (rw length-take (omega arith)))
-
-pub first-below : (b k : ℕ) (xs : List ℕ) → ((i : ℕ) → i < k → getD xs i 0 < b) → allBelow b (take k xs) ≡ true
-first-below b k xs f = below-passes b (take k xs) (λ i h. at i h)
-  where
-    at : (i : ℕ) → i < length (take k xs) → getD (take k xs) i 0 < b
-    at i h =
-        let l : i < k = omega (arith, length-take k xs) in
-        rw (getD-take k xs i 0 l) (f i l)
-
 -- rule 5
 pub record Shape (a table : ℕ) (ps : List ℕ) : Type 0 where
   pub pin-count : a ≤ 4
@@ -64,7 +51,11 @@ unfolding gateShape
 shape-holds a table ps e =
     let p = both (leb a 4) (ltb table (2 ^ 2 ^ a) && allZero (drop a ps)) e in
     let q = both (ltb table (2 ^ 2 ^ a)) (allZero (drop a ps)) (p .1) in
-    record { pin-count = leb-true a 4 (p .0); table-bits = ltb-true table (2 ^ 2 ^ a) (q .0); unused-zero = λ i h. at i h (zero-holds (drop a ps) (q .1) (i - a)) }
+    record {
+      pin-count = leb-true a 4 (p .0);
+      table-bits = ltb-true table (2 ^ 2 ^ a) (q .0);
+      unused-zero = λ i h. at i h (zero-holds (drop a ps) (q .1) (i - a));
+    }
   where
     at : (i : ℕ) → a ≤ i → getD (drop a ps) (i - a) 0 ≡ 0 → getD ps i 0 ≡ 0
     at i h z =
@@ -77,6 +68,21 @@ shape-passes a table ps s =
     join (leb a 4) (ltb table (2 ^ 2 ^ a) && allZero (drop a ps)) (le-leb a 4 (s .pin-count))
     (join (ltb table (2 ^ 2 ^ a)) (allZero (drop a ps)) (lt-ltb table (2 ^ 2 ^ a) (s .table-bits))
     (zero-passes (drop a ps) (λ i. getD-drop a ps i 0 ∙ s .unused-zero (a + i) (omega arith))))
+
+-- rule 6
+pub used-holds : (limit a : ℕ) (ps : List ℕ) → usedBelow limit a ps ≡ true → (i : ℕ) → i < a → i < length ps → getD ps i 0 < limit
+unfolding usedBelow
+used-holds limit a ps e i h l =
+    rw (getD-take a ps i 0 h) at (below-holds limit (take a ps) e i (rw length-take (omega arith)))
+
+pub used-passes : (limit a : ℕ) (ps : List ℕ) → ((i : ℕ) → i < a → getD ps i 0 < limit) → usedBelow limit a ps ≡ true
+unfolding usedBelow
+used-passes limit a ps f = below-passes limit (take a ps) at
+  where
+    at : (i : ℕ) → i < length (take a ps) → getD (take a ps) i 0 < limit
+    at i h =
+        let l : i < a = omega (arith, length-take a ps) in
+        rw (getD-take a ps i 0 l) (f i l)
 
 -- rule 14, the counts
 pub counts-hold : (n g k : ℕ) → countsInRange n g k ≡ true → (n ≤ 12) × (g ≤ 1024) × (1 ≤ k) × (k ≤ 64)
@@ -92,15 +98,6 @@ unfolding countsInRange
 counts-pass n g k a b c d =
     join (leb n 12) (leb g 1024 && (leb 1 k && leb k 64)) (le-leb n 12 a)
     (join (leb g 1024) (leb 1 k && leb k 64) (le-leb g 1024 b) (join (leb 1 k) (leb k 64) (le-leb 1 k c) (le-leb k 64 d)))
-
--- rule 6
-pub used-holds : (limit a : ℕ) (ps : List ℕ) → usedBelow limit a ps ≡ true → (i : ℕ) → i < a → i < length ps → getD ps i 0 < limit
-unfolding usedBelow
-used-holds limit a ps e i h l = below-first limit a ps e i h l
-
-pub used-passes : (limit a : ℕ) (ps : List ℕ) → ((i : ℕ) → i < a → getD ps i 0 < limit) → usedBelow limit a ps ≡ true
-unfolding usedBelow
-used-passes limit a ps f = first-below limit a ps f
 
 -- 2^n of at most 12 inputs, by a shift
 pub shifted : (n : ℕ) → n ≤ 12 → 1 * 2 ^ n % 2 ^ 32 ≡ 2 ^ n

@@ -1,6 +1,6 @@
 -- `rules::judge` meets its contract: each test that fails decides, in the order of the refusals. Assumes nothing.
 use Prim.Native.Nat.{ℕ, _≤_}
-use mathlib.Core.Bool.{true, false}
+use mathlib.Core.Bool.{Bool, true, false}
 use mathlib.Core.List.{List}
 use mathlib.Core.Path.{_≡_, refl, sym, ap, _∙_}
 use native.Mathlib.Omega.{arith}
@@ -14,16 +14,21 @@ use borrow.Author.Needs.{needs}
 use Rattle.rules.proofs.judge.Statement.{statement}
 use Rattle.rules.proofs.judge.Tie as tie
 
--- the area's words
+-- the area's words, and the test of the counts
 abbrev words : tie.Start → List ℕ
 words s = s .args .area .now
 
--- the counts that passed
-counts-passed : (c : tie.Else2) → countsInRange (inputs (words (c .before .before .before .before .before .before .before))) (gates (words (c .before .before .before .before .before .before .before))) (outputs (words (c .before .before .before .before .before .before .before))) ≡ true
+abbrev Counts : tie.Start → Bool
+Counts s = countsInRange (inputs (words s)) (gates (words s)) (outputs (words s))
+
+abbrev Fit : List ℕ → Type 0
+Fit ws = (inputs ws ≤ 12) × (gates ws ≤ 1024) × (1 ≤ outputs ws) × (outputs ws ≤ 64)
+
+-- what it says where it passed
+counts-passed : (c : tie.Else2) → Counts (c .before .before .before .before .before .before .before) ≡ true
 counts-passed c = sym (c .before .counts-in-range .ensures) ∙ not-false (c .before .counts-in-range .result) (c .if2 .left)
 
-fit : (c : tie.Else2)
-    → (inputs (words (c .before .before .before .before .before .before .before)) ≤ 12) × (gates (words (c .before .before .before .before .before .before .before)) ≤ 1024) × (1 ≤ outputs (words (c .before .before .before .before .before .before .before))) × (outputs (words (c .before .before .before .before .before .before .before)) ≤ 64)
+fit : (c : tie.Else2) → Fit (words (c .before .before .before .before .before .before .before))
 fit c = counts-hold _ _ _ (counts-passed c)
 
 returns : tie.Need-returns
@@ -78,7 +83,18 @@ returns-3 : tie.Need-returns-3
 unfolding judged
 returns-3 c =
     sym
-    (ap answerOf (refusal-is (words (c .before .before .before .before .before .before .before .before)) false true true _ (le-ltb _ _ (c .before .before .before .before .before .before .if1 .left)) (counts-passed (c .before)) (lt-ltb _ _ (c .if3 .taken)) refl))
+    (ap
+    answerOf
+    (refusal-is
+    (words (c .before .before .before .before .before .before .before .before))
+    false
+    true
+    true
+    _
+    (le-ltb _ _ (c .before .before .before .before .before .before .if1 .left))
+    (counts-passed (c .before))
+    (lt-ltb _ _ (c .if3 .taken))
+    refl))
 
 rest-sound-requires : tie.Need-rest-sound-requires
 rest-sound-requires c κs =

@@ -1,6 +1,6 @@
 -- `rules::rest_sound` meets its contract: each test that fails decides. Assumes nothing.
 use Prim.Native.Nat.{ℕ, _+_, _*_, _%_, _^_}
-use mathlib.Core.Bool.{true, false}
+use mathlib.Core.Bool.{Bool, true, false}
 use mathlib.Core.List.{List}
 use mathlib.Core.Path.{_≡_, refl, sym, ap, _∙_}
 use native.Mathlib.Omega.{arith}
@@ -14,24 +14,33 @@ use borrow.Author.Needs.{needs}
 use Rattle.rules.proofs.rest_sound.Statement.{statement}
 use Rattle.rules.proofs.rest_sound.Tie as tie
 
--- the area's words
+-- the area's words, and the tests of them by a shift and by calls
 abbrev words : tie.Start → List ℕ
 words s = s .args .area .now
 
--- what the tests that passed say of them
+abbrev Pattern : tie.Start → Bool
+Pattern s = ltb (pattern (words s)) (2 ^ inputs (words s))
+
+abbrev Gates : tie.Start → Bool
+Gates s = gatesSound (words s) 0 (gates (words s))
+
+abbrev Outputs : tie.Start → Bool
+Outputs s = allBelow (inputs (words s) + gates (words s)) (outputWords (words s))
+
+-- what those that passed say
 reserved-passed : (c : tie.Else1) → reservedRight (words (c .before .before .before)) ≡ true
 reserved-passed c = sym (c .before .reserved-right .ensures) ∙ not-false (c .before .reserved-right .result) (c .if1 .left)
 
 shift : (s : tie.Start) → 1 * 2 ^ inputs (words s) % 2 ^ 32 ≡ 2 ^ inputs (words s)
 shift s = shifted (inputs (words s)) (s .pre .1 .0)
 
-pattern-passed : (c : tie.Else2) → ltb (pattern (words (c .before .before .before .before .before .before))) (2 ^ inputs (words (c .before .before .before .before .before .before))) ≡ true
+pattern-passed : (c : tie.Else2) → Pattern (c .before .before .before .before .before .before) ≡ true
 pattern-passed c = lt-ltb _ _ (rw (shift (c .before .before .before .before .before .before)) at (c .if2 .left))
 
-gates-passed : (c : tie.Else4) → gatesSound (words (c .before .before .before .before .before .before .before .before .before .before)) 0 (gates (words (c .before .before .before .before .before .before .before .before .before .before))) ≡ true
+gates-passed : (c : tie.Else4) → Gates (c .before .before .before .before .before .before .before .before .before .before) ≡ true
 gates-passed c = sym (c .before .gates-sound .ensures) ∙ not-false (c .before .gates-sound .result) (c .if4 .left)
 
-outputs-are : (c : tie.After-all-below) → allBelow (inputs (words (c .before .before .before .before .before .before .before .before .before .before .before .before .before .before)) + gates (words (c .before .before .before .before .before .before .before .before .before .before .before .before .before .before))) (outputWords (words (c .before .before .before .before .before .before .before .before .before .before .before .before .before .before))) ≡ c .all-below .result
+outputs-are : (c : tie.After-all-below) → Outputs (c .before .before .before .before .before .before .before .before .before .before .before .before .before .before) ≡ c .all-below .result
 outputs-are c = ap (allBelow _) (sym (middle (words (c .before .before .before .before .before .before .before .before .before .before .before .before .before .before)))) ∙ sym (c .all-below .ensures)
 
 reserved-right-requires : tie.Need-reserved-right-requires
@@ -53,7 +62,8 @@ shl-if2 c = search needs
 
 returns-2 : tie.Need-returns-2
 returns-2 c =
-    sym (rest-is (words (c .before .before .before .before .before .before)) true false _ _ _ (reserved-passed (c .before .before .before)) (le-ltb _ _ (rw (shift (c .before .before .before .before .before .before)) at (c .if2 .taken))) refl refl refl)
+    let s = c .before .before .before .before .before .before in
+    sym (rest-is (words s) true false _ _ _ (reserved-passed (c .before .before .before)) (le-ltb _ _ (rw (shift s) at (c .if2 .taken))) refl refl refl)
 
 shared-slice-read-if3 : tie.Need-shared-slice-read-if3
 shared-slice-read-if3 c = search needs
@@ -63,7 +73,8 @@ cast-if3 c = omega (arith, c .shared-slice-known4 .given 4)
 
 returns-3 : tie.Need-returns-3
 returns-3 c =
-    sym (rest-is (words (c .before .before .before .before .before .before .before .before)) true true false _ _ (reserved-passed (c .before .before .before .before .before)) (pattern-passed (c .before .before)) (lt-leb _ _ (c .if3 .taken)) refl refl)
+    let s = c .before .before .before .before .before .before .before .before in
+    sym (rest-is (words s) true true false _ _ (reserved-passed (c .before .before .before .before .before)) (pattern-passed (c .before .before)) (lt-leb _ _ (c .if3 .taken)) refl refl)
 
 gates-sound-requires : tie.Need-gates-sound-requires
 gates-sound-requires c κs = search needs
