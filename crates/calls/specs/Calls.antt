@@ -20,9 +20,9 @@ abbrev pub leftBy : Judgement → List ℕ → List ℕ → List ℕ
 leftBy fine work stood = work
 leftBy (refusal number place) work stood = stood
 
--- open: the image's words with all figures for pattern 0; words past those needed are not touched
+-- open: the image's words, pattern 0, every figure worked out; words past those needed are not touched
 unfoldable pub openWords : List ℕ → List ℕ → List ℕ
-openWords bs ws = workAll (imageWords bs) ++ drop (needed (imageGates bs) (imageOutputs bs)) ws
+openWords bs ws = workAll (imageWords bs ++ drop (needed (imageGates bs) (imageOutputs bs)) ws)
 
 -- what open answers: the number of live gates
 unfoldable pub openLive : List ℕ → ℕ
