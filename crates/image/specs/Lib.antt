@@ -1,0 +1,5 @@
+pub mod Judgement
+pub mod Image
+pub mod Refusals
+pub mod Loading
+pub mod Record

@@ -1,0 +1,56 @@
+-- Refusals 1 to 8 of document 01 in their order.
+use Prim.Native.Nat.{ℕ, _+_, _*_, _≤_}
+use mathlib.Core.Path.{_≡_}
+use mathlib.Core.Bool.{Bool, _&&_}
+use mathlib.Core.List.{List}
+use lib.ListN.{length}
+use lib.Dec.{leb, ltb, eqb}
+use Rattle.chance.specs.Flip.{flipAccepted}
+use Rattle.words.specs.Rules.{gateShape, usedBelow, countsInRange}
+use Rattle.image.specs.Judgement.{Judgement, demand, otherwise, lowest}
+use Rattle.image.specs.Image.{trailerAt, imageInputs, imageGates, imageOutputs, imageFormat, imageBack, imageTotal, middle, recordCount, recordKind, recordTable, recordPins, recordField, outputAt}
+
+-- 1: the length from 16 to 32,768, and total the same
+unfoldable pub lengthRight : List ℕ → Bool
+lengthRight bs = leb 16 (length bs) && (leb (length bs) 32_768 && eqb (imageTotal bs) (length bs))
+
+-- 4: back is 20 × G + 2 × K, and at most length - 16
+unfoldable pub backRight : List ℕ → Bool
+backRight bs = eqb (imageBack bs) (20 * imageGates bs + 2 * imageOutputs bs) && leb (imageBack bs) (trailerAt bs)
+
+unfoldable pub trailerRefusal : List ℕ → Judgement
+trailerRefusal bs =
+    otherwise (demand (lengthRight bs) 1 0)
+    (otherwise (demand (eqb (imageFormat bs) 1) 2 0)
+    (otherwise (demand (countsInRange (imageInputs bs) (imageGates bs) (imageOutputs bs)) 3 0) (demand (backRight bs) 4 0)))
+
+-- what is known of a trailer that passes
+pub record TrailerRight (bs : List ℕ) : Type 0 where
+  pub low : 16 ≤ length bs
+  pub high : length bs ≤ 32_768
+  pub total : imageTotal bs ≡ length bs
+  pub format : imageFormat bs ≡ 1
+  pub inputs-fit : imageInputs bs ≤ 12
+  pub gates-fit : imageGates bs ≤ 1024
+  pub some-output : 1 ≤ imageOutputs bs
+  pub outputs-fit : imageOutputs bs ≤ 64
+  pub back : imageBack bs ≡ 20 * imageGates bs + 2 * imageOutputs bs
+  pub inside : imageBack bs ≤ trailerAt bs
+
+-- 5, 6, 7 for gate j of a netlist with n inputs
+unfoldable pub gateRefusal : List ℕ → ℕ → ℕ → Judgement
+gateRefusal m n j =
+    otherwise (demand (gateShape (recordCount m j) (recordTable m j) (recordPins m j)) 5 j)
+    (otherwise (demand (usedBelow (n + j) (recordCount m j) (recordPins m j)) 6 j)
+    (demand (flipAccepted (recordKind m j) (recordField m j)) 7 j))
+
+-- 8 for output k of a netlist with n inputs and g gates
+unfoldable pub outputRefusal : List ℕ → ℕ → ℕ → ℕ → Judgement
+outputRefusal m n g k = demand (ltb (outputAt m g k) (n + g)) 8 k
+
+-- each gate in turn, then each output
+unfoldable pub middleRefusal : List ℕ → ℕ → ℕ → ℕ → Judgement
+middleRefusal m n g k = otherwise (lowest (gateRefusal m n) g) (lowest (outputRefusal m n g) k)
+
+unfoldable pub imageRefusal : List ℕ → Judgement
+imageRefusal bs = otherwise (trailerRefusal bs) (middleRefusal (middle bs) (imageInputs bs) (imageGates bs) (imageOutputs bs))
