@@ -1,0 +1,5 @@
+pub mod Judged
+pub mod Sets
+pub mod Trailer
+pub mod Gates
+pub mod Middle
