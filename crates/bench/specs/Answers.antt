@@ -1,0 +1,34 @@
+-- Each call's answer as its enum: for each case document 01's number and values.
+use Prim.Native.Nat.{ℕ}
+use mathlib.Core.Path.{_≡_}
+use lib.Ieee.{Float}
+use lib.Ieee.Exact.{HasValue}
+use mathlib.Core.Bool.{false}
+use Rattle.rounding.specs.Rounding.{unitsInOne}
+use Rattle.image.specs.Judgement.{Judgement, fine, refusal}
+use Rattle.bench.specs.declared.Toggled.{Toggled}
+use Rattle.bench.specs.declared.Toggled.the-variants.{Done as ToggleDone, Refused as ToggleRefused}
+use Rattle.bench.specs.declared.FlipSet.{FlipSet}
+use Rattle.bench.specs.declared.FlipSet.the-variants.{Done as SetDone, Refused as SetRefused}
+use Rattle.bench.specs.declared.NetlistRead.{NetlistRead}
+use Rattle.bench.specs.declared.NetlistRead.the-variants.{Done as NetlistDone, Refused as NetlistRefused}
+use Rattle.bench.specs.declared.GateRead.{GateRead}
+use Rattle.bench.specs.declared.GateRead.the-variants.{Done as GateDone, Refused as GateRefused}
+
+abbrev pub toggled : Judgement → Toggled
+toggled fine = ToggleDone
+toggled (refusal number place) = ToggleRefused number place
+
+abbrev pub flipSet : Judgement → FlipSet
+flipSet fine = SetDone
+flipSet (refusal number place) = SetRefused number place
+
+-- right value and failure
+abbrev pub gateRead : Judgement → ℕ → ℕ → GateRead
+gateRead fine right failure = GateDone right failure
+gateRead (refusal number place) right failure = GateRefused number place
+
+-- pattern and units, with the f64 whose value is exactly units / U
+abbrev pub NetlistAnswer : Judgement → ℕ → ℕ → NetlistRead → Type 0
+NetlistAnswer fine pattern units r = (x : Float) × (r ≡ NetlistDone pattern units x) × HasValue x false units unitsInOne
+NetlistAnswer (refusal number place) pattern units r = r ≡ NetlistRefused number place

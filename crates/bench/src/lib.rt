@@ -1,0 +1,119 @@
+// The six calls of the bench. Each judges its input first: a refused call changes no word.
+ghost use mathlib.Core.Path.{_≡_};
+ghost use Prim.Native.Nat.{_/_, _%_};
+ghost use Rattle.words.specs.Words.{pattern, reliabilityWord, figure};
+ghost use Rattle.words.specs.Rules.{areaRefusal};
+ghost use Rattle.words.specs.Work.{toggleWords, setWords};
+ghost use Rattle.calls.specs.Judged.{areaJudgement, toggleJudgement, setJudgement, gateJudgement};
+ghost use Rattle.calls.specs.Calls.{leftBy, flipUnits};
+ghost use Rattle.bench.specs.Answers.{toggled, flipSet, gateRead, NetlistAnswer};
+use chance::FlipUnits;
+use rules::Judged;
+
+// The answers: done with its result, or refused with number and place.
+pub enum Toggled {
+    Done,
+    Refused(u8, u32),
+}
+
+pub enum FlipSet {
+    Done,
+    Refused(u8, u32),
+}
+
+pub enum NetlistRead {
+    Done {
+        pattern: u32,
+        units: u32,
+        reliability: f64,
+    },
+    Refused(u8, u32),
+}
+
+pub enum GateRead {
+    Done { right: u32, failure: u32 },
+    Refused(u8, u32),
+}
+
+// Refusal 13 or 14 of the area, or 0.
+fn area_refusal(area: &[u32]) -> u8
+    ensures { λ r. ⌜ r ≡ areaRefusal (now (area .entry)) ⌝ }
+{
+    let judged = rules::judge(area);
+    match judged {
+        Judged::Sound => 0,
+        Judged::Refused(number) => number,
+    }
+}
+
+// Toggles one input: works out again the gates that depend on it, and the reliability.
+pub fn toggle_input(area: &mut [u32], input: u32) -> Toggled
+    ensures { λ r. ⌜ r ≡ toggled (toggleJudgement (now (area .entry)) input) ⌝ }
+    ensures { λ _. ⌜ now (area .exit) ≡ leftBy (toggleJudgement (now (area .entry)) input) (toggleWords (now (area .entry)) input) (now (area .entry)) ⌝ }
+{
+    let refusal = area_refusal(area);
+    if refusal != 0 {
+        return Toggled::Refused(refusal, 0);
+    }
+    if area[0] <= input {
+        return Toggled::Refused(10, input);
+    }
+    words::toggle(area, input as usize);
+    Toggled::Done
+}
+
+// Sets one gate's flip: works out again that gate, those that depend on it, and the reliability.
+pub fn set_flip(area: &mut [u32], gate: u32, kind: u8, field: [u8; 8]) -> FlipSet
+    ensures { λ r. ⌜ r ≡ flipSet (setJudgement (now (area .entry)) gate kind field) ⌝ }
+    ensures { λ _. ⌜ now (area .exit) ≡ leftBy (setJudgement (now (area .entry)) gate kind field) (setWords (now (area .entry)) gate (flipUnits kind field)) (now (area .entry)) ⌝ }
+{
+    let refusal = area_refusal(area);
+    if refusal != 0 {
+        return FlipSet::Refused(refusal, 0);
+    }
+    if area[1] <= gate {
+        return FlipSet::Refused(10, gate);
+    }
+    let read = chance::read_units(kind, field);
+    match read {
+        FlipUnits::Units(units) => {
+            words::set_units(area, gate as usize, units);
+            FlipSet::Done
+        }
+        FlipUnits::Refused => FlipSet::Refused(11, gate),
+    }
+}
+
+// Reads the pattern and the reliability, in units and as an f64. It writes nothing.
+pub fn read_netlist(area: &[u32]) -> NetlistRead
+    ensures { λ r. ⌜ NetlistAnswer (areaJudgement (now (area .entry))) (pattern (now (area .entry))) (reliabilityWord (now (area .entry))) r ⌝ }
+{
+    let refusal = area_refusal(area);
+    if refusal != 0 {
+        return NetlistRead::Refused(refusal, 0);
+    }
+    let units = area[4];
+    NetlistRead::Done {
+        pattern: area[3],
+        units,
+        reliability: chance::units_as_f64(units),
+    }
+}
+
+// Reads one gate's right value and failure. It writes nothing.
+pub fn read_gate(area: &[u32], gate: u32) -> GateRead
+    ensures { λ r. ⌜ r ≡ gateRead (gateJudgement (now (area .entry)) gate) (figure (now (area .entry)) gate % 2) (figure (now (area .entry)) gate / 2) ⌝ }
+{
+    let refusal = area_refusal(area);
+    if refusal != 0 {
+        return GateRead::Refused(refusal, 0);
+    }
+    if area[1] <= gate {
+        return GateRead::Refused(10, gate);
+    }
+    let word = area[8 + 8 * (gate as usize) + 7];
+    GateRead::Done {
+        right: word % 2,
+        failure: word / 2,
+    }
+}
