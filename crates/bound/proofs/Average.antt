@@ -3,8 +3,8 @@ use Prim.Native.Nat.{ℕ, zero, suc, _+_, _*_, _^_}
 use mathlib.Core.Path.{_≡_, refl}
 use native.Mathlib.Omega.{arith}
 use lib.ListN.{getD}
-use Rattle.rounding.specs.Rounding.{roundDiv}
-use Rattle.rounding.proofs.Laws.{Near, near}
+use Rattle.rounding.specs.Rounding.{roundDiv, Near}
+use Rattle.rounding.proofs.Laws.{near}
 use Rattle.netlist.specs.Exact.{exactSum}
 use Rattle.netlist.specs.Figures.{reliability}
 use Rattle.netlist.specs.Live.{liveGates}

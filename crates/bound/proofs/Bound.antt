@@ -11,8 +11,7 @@ use lib.ListN.{length, getD, length-map, List·getD-eq-default}
 use lib.Dec.{leb}
 use lib.Pow.{pow-add}
 use borrow.Author.Tests.{leb-false}
-use Rattle.rounding.specs.Rounding.{toUnits}
-use Rattle.rounding.proofs.Laws.{Near}
+use Rattle.rounding.specs.Rounding.{toUnits, Near}
 use Rattle.figure.specs.Figure.{difference, gateStep, gateFailure}
 use Rattle.figure.proofs.Fold.{foldOver}
 use Rattle.netlist.specs.Netlist.{Gate, Netlist, gateAt, inputValues, pinValues, rightValues}

@@ -3,8 +3,7 @@ use Prim.Native.Nat.{ℕ, zero, suc, _+_, _*_, _≤_, _<_}
 use native.Mathlib.Omega.{arith}
 use lib.ListN.{length}
 use lib.Dec.{le→leb, lit≤, lit<}
-use Rattle.rounding.specs.Rounding.{unitsInOne, roundDiv, blend, toUnits}
-use Rattle.rounding.proofs.Laws.{Near}
+use Rattle.rounding.specs.Rounding.{unitsInOne, roundDiv, blend, toUnits, Near}
 use Rattle.figure.specs.Figure.{answer, difference, startValues, gateStep, gateFailure, outputStep}
 use Rattle.netlist.specs.Netlist.{gateAt, rightValues}
 use Rattle.netlist.specs.WellFormed.{Below, WellFormed}

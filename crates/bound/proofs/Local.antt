@@ -8,8 +8,8 @@ use native.Mathlib.Nat.{mul-one, mul-zero, le-refl}
 use native.Mathlib.Omega.{arith}
 use lib.ListN.{length, getD}
 use lib.Arith.{sub-sub-self, le-zero}
-use Rattle.rounding.specs.Rounding.{blend, toUnits}
-use Rattle.rounding.proofs.Laws.{Near, blend-at-most}
+use Rattle.rounding.specs.Rounding.{blend, toUnits, Near}
+use Rattle.rounding.proofs.Laws.{blend-at-most}
 use Rattle.figure.specs.Figure.{bitOf, difference, gateStep, outputStep}
 use Rattle.figure.proofs.Fold.{foldOver}
 use Rattle.netlist.specs.Netlist.{Gate, pinValues}

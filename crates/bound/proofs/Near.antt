@@ -5,7 +5,7 @@ use mathlib.Core.Logic.{by-cases}
 use native.Mathlib.Nat.{mul-le-mul, mul-le-mul-left, le-of-mul-le-mul-left}
 use native.Mathlib.Decide.{decLe}
 use native.Mathlib.Omega.{arith}
-use Rattle.rounding.proofs.Laws.{Near}
+use Rattle.rounding.specs.Rounding.{Near}
 
 pub near-sym : {e a b : ℕ} → Near e a b → Near e b a
 near-sym n = record { up = n .down; down = n .up }

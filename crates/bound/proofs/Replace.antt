@@ -10,7 +10,7 @@ use native.Mathlib.Omega.{arith}
 use lib.ListN.{length}
 use lib.Pow.{pow-add}
 use lib.Dec.{eqb}
-use Rattle.rounding.proofs.Laws.{Near}
+use Rattle.rounding.specs.Rounding.{Near}
 use Rattle.netlist.specs.Netlist.{Gate}
 use Rattle.netlist.specs.WellFormed.{Below}
 use Rattle.netlist.specs.Live.{count, isLive, liveReadsFrom}

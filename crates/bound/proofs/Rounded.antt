@@ -7,8 +7,8 @@ use mathlib.Core.Path.{_≡_, refl, sym, ap, ap₂, _∙_}
 use native.Mathlib.Nat.{pow-zero, pow-succ', mul-zero, add-zero, sub-zero, sub-add-cancel}
 use native.Mathlib.Omega.{arith}
 use lib.ListN.{length}
-use Rattle.rounding.specs.Rounding.{blend, toUnits}
-use Rattle.rounding.proofs.Laws.{Near, near, blend-none}
+use Rattle.rounding.specs.Rounding.{blend, toUnits, Near}
+use Rattle.rounding.proofs.Laws.{near, blend-none}
 use Rattle.figure.specs.Figure.{bitOf}
 use Rattle.figure.proofs.Fold.{foldOver}
 use Rattle.bound.proofs.Near.{near-at, near-trans, near-add, near-scale, replace}

@@ -3,7 +3,7 @@
 use Prim.Native.Nat.{ℕ, _+_, _*_, _^_, _<_}
 use mathlib.Core.List.{List}
 use lib.ListN.{length}
-use Rattle.rounding.proofs.Laws.{Near}
+use Rattle.rounding.specs.Rounding.{Near}
 use Rattle.netlist.specs.Netlist.{Netlist}
 use Rattle.netlist.specs.WellFormed.{WellFormed}
 use Rattle.netlist.specs.Exact.{exactSum}

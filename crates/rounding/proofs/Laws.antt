@@ -3,12 +3,7 @@ use Prim.Native.Nat.{ℕ, zero, suc, _+_, _-_, _*_, _/_, _≤_, _<_}
 use mathlib.Core.Path.{_≡_, refl, sym, ap, _∙_}
 use native.Mathlib.Nat.{div-mul-le-self, lt-div-mul-add, le-div-iff-mul-le, div-lt-iff-lt-mul, le-antisymm, mul-le-mul-left, mul-le-mul-right, mul-comm, mul-zero, zero-mul, sub-zero, add-zero, sub-add-cancel}
 use native.Mathlib.Omega.{arith}
-use Rattle.rounding.specs.Rounding.{roundDiv, blend}
-
--- a and b differ by at most e
-pub record Near (e a b : ℕ) : Type 0 where
-  pub up : a ≤ b + e
-  pub down : b ≤ a + e
+use Rattle.rounding.specs.Rounding.{Near, roundDiv, blend}
 
 module _ (n d : ℕ) (pos : 0 < d) where
   -- the rounded quotient times the divisor is at most half a divisor away

@@ -2,7 +2,7 @@
 -- and the test as a fact both ways. Assumes nothing.
 use Prim.Native.Nat.{ℕ, zero, suc, _+_, _-_, _≤_, _<_}
 use mathlib.Core.Bool.{Bool, true, false, _&&_, and-eq-true-iff}
-use mathlib.Core.List.{List, [], _∷_}
+use mathlib.Core.List.{List}
 use mathlib.Core.Path.{_≡_, refl, sym, ap, _∙_}
 use native.Mathlib.Numerals.{add-one}
 use native.Mathlib.Omega.{arith}
@@ -69,3 +69,14 @@ zero-part ws s (suc k) h =
 pub gates-part : (ws : List ℕ) (j k : ℕ) → gatesSound ws j k ≡ from (gateSound ws) j k
 gates-part ws j zero = refl
 gates-part ws j (suc k) = ap (λ (r : Bool). gateSound ws j && r) (gates-part ws (suc j) k)
+
+pub gates-hold : (ws : List ℕ) (g : ℕ) → gatesSound ws 0 g ≡ true → (j : ℕ) → j < g → gateSound ws j ≡ true
+gates-hold ws g e j h =
+    let z : j ≡ 0 + j = omega arith in
+    ap (gateSound ws) z ∙ every-holds (gateSound ws) 0 g (sym (gates-part ws 0 g) ∙ e) j h
+
+pub gates-pass : (ws : List ℕ) (g : ℕ) → ((j : ℕ) → j < g → gateSound ws j ≡ true) → gatesSound ws 0 g ≡ true
+gates-pass ws g f = gates-part ws 0 g ∙ holds-every (gateSound ws) 0 g (λ j h. ap (gateSound ws) (same j) ∙ f j h)
+  where
+    same : (j : ℕ) → 0 + j ≡ j
+    same j = omega arith

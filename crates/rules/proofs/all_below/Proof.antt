@@ -1,12 +1,12 @@
 -- `rules::all_below` meets its contract: what is left to test from i on decides. Assumes nothing.
-use Prim.Native.Nat.{ℕ, _+_, _-_, _≤_}
+use Prim.Native.Nat.{ℕ, _-_, _≤_}
 use mathlib.Core.Bool.{Bool}
-use mathlib.Core.Path.{_≡_, refl, sym, _∙_}
+use mathlib.Core.Path.{_≡_, sym, _∙_}
 use native.Mathlib.Omega.{arith}
 use borrow.Author.Needs.{needs}
 use borrow.Author.Tests.{lt-ltb, le-ltb}
 use lib.Dec.{ltb}
-use lib.ListN.{length, getD, take, drop}
+use lib.ListN.{getD, take, drop}
 use Rattle.words.specs.Rules.{allBelow}
 use Rattle.rules.proofs.Every.{from, passes-on, fails, ends, below-part}
 use Rattle.rules.proofs.all_below.Statement.{statement}

@@ -1,9 +1,8 @@
--- `image::counts_in_range` meets its contract: the first test that fails decides. Assumes nothing.
+-- `rules::counts_in_range` meets its contract: each test that fails decides. Assumes nothing.
 use borrow.Author.Tests.{le-leb, lt-leb}
-use borrow.Author.Needs.{needs}
 use Rattle.words.specs.Rules.{countsInRange}
-use Rattle.image.proofs.counts_in_range.Statement.{statement}
-use Rattle.image.proofs.counts_in_range.Tie as tie
+use Rattle.rules.proofs.counts_in_range.Statement.{statement}
+use Rattle.rules.proofs.counts_in_range.Tie as tie
 
 returns : tie.Need-returns
 unfolding countsInRange

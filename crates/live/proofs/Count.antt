@@ -1,0 +1,134 @@
+-- Counting reads in a list of counts: one read, the reads of a gate, and those of all later gates. Assumes nothing.
+use Prim.Native.Nat.{ℕ, zero, suc, _+_, _-_, _*_, _≤_, _<_}
+use mathlib.Core.Bool.{Bool, true, false, cond}
+use mathlib.Core.List.{List, [], _∷_, _++_}
+use mathlib.Core.Path.{_≡_, refl, sym, ap, ap₂, _∙_}
+use native.Mathlib.Nat.{add-zero, sub-zero, sub-self}
+use native.Mathlib.Numerals.{add-one}
+use native.Mathlib.Omega.{arith}
+use lib.ListN.{length, getD, set, take, drop, replicate, length-take, length-append}
+use lib.Seq.{take-suc, getD-set-same, getD-set-other}
+use lib.Dec.{eqb}
+use borrow.Author.Tests.{eqb-true, eqb-false}
+use Rattle.figure.specs.Figure.{bitOf}
+use Rattle.netlist.specs.Live.{count, isLive, withGate, liveReadsFrom, liveReads, readers}
+use Rattle.netlist.proofs.Count.{count-append}
+use Rattle.netlist.proofs.Live.{ifLive, count-with}
+use Rattle.words.specs.Words.{inputs, gates, outputs, pinCount, pins, usedPins, outputWords}
+use Rattle.live.specs.Net.{gatesFrom, netOf}
+use Rattle.live.specs.Counted.{Counts, Added, readsOf, gateReads}
+
+-- xs has at each source how often it stands in rs
+abbrev pub CountsOf : List ℕ → List ℕ → Type 0
+CountsOf xs rs = (s : ℕ) → getD xs s 0 ≡ count s rs
+
+zeros : (n s : ℕ) → _≡_ {A = ℕ} (getD (replicate n 0) s 0) 0
+zeros zero s = refl
+zeros (suc n) zero = refl
+zeros (suc n) (suc s) = zeros n s
+
+pub no-reads : Counts (replicate 1036 0)
+no-reads = record { long = refl; few = λ s. omega (arith, zeros 1036 s) }
+
+-- one read of source r
+one-read : (xs : List ℕ) (r s : ℕ) → r < length xs → getD (set xs r (getD xs r 0 + 1)) s 0 ≡ getD xs s 0 + bitOf (eqb s r)
+one-read xs r s l = go (eqb s r) refl
+  where
+    go : (b : Bool) → eqb s r ≡ b → getD (set xs r (getD xs r 0 + 1)) s 0 ≡ getD xs s 0 + bitOf b
+    go true e = rw (eqb-true s r e) (getD-set-same xs r (getD xs r 0 + 1) 0 l)
+    go false e = getD-set-other xs r s (getD xs r 0 + 1) 0 (eqb-false s r e) ∙ sym (add-zero (getD xs s 0))
+
+-- a turn of the loop over reads
+pub read-turn : (old xs reads : List ℕ) (i r : ℕ) → i < length reads → getD reads i 0 ≡ r → r < length xs
+    → ((s : ℕ) → getD xs s 0 ≡ getD old s 0 + count s (take i reads))
+    → (s : ℕ) → getD (set xs r (getD xs r 0 + 1)) s 0 ≡ getD old s 0 + count s (take (i + 1) reads)
+read-turn old xs reads i r l e m h s =
+    rw (add-one i, take-suc reads i 0 l, e) (omega (arith, one-read xs r s m, h s, count-append s (take i reads) (r ∷ [])))
+
+-- a list counts a source at most as often as it is long
+pub count-length : (s : ℕ) (rs : List ℕ) → count s rs ≤ length rs
+count-length s [] = omega arith
+count-length s (r ∷ rs) = omega (arith, count-length s rs, bit-small (eqb s r))
+  where
+    bit-small : (b : Bool) → bitOf b ≤ 1
+    bit-small true = omega arith
+    bit-small false = omega arith
+
+-- the reads by the outputs and by the live ones of the gates from j on
+abbrev pub readsAfter : List ℕ → ℕ → List ℕ
+readsAfter ws j = liveReadsFrom (outputWords ws) (inputs ws + j) (gatesFrom ws [] [] j (gates ws - j))
+
+-- before the first gate that is looked at there are the outputs, after the last one all live readers
+pub first-reads : (ws xs : List ℕ) → Added (replicate 1036 0) (outputWords ws) xs → CountsOf xs (readsAfter ws (gates ws))
+first-reads ws xs added s = rw (sub-self (gates ws)) (omega (arith, added .each s, zeros 1036 s))
+
+pub all-reads : (ws xs : List ℕ) → CountsOf xs (readsAfter ws 0) → (s : ℕ) → getD xs s 0 ≡ readers (netOf ws [] []) s
+unfolding readers liveReads
+all-reads ws xs h s = rw (sub-zero (gates ws), add-zero (inputs ws)) at (h s)
+
+reads-step : (ws : List ℕ) (j : ℕ) → j < gates ws → readsAfter ws j ≡ withGate (inputs ws + j) (usedPins ws j) (readsAfter ws (j + 1))
+reads-step ws j l =
+    let more : gates ws - j ≡ suc (gates ws - (j + 1)) = omega arith in
+    let next : suc (inputs ws + j) ≡ inputs ws + (j + 1) = omega arith in
+    ap (λ (k : ℕ). liveReadsFrom (outputWords ws) (inputs ws + j) (gatesFrom ws [] [] j k)) more
+    ∙ ap₂ (λ (s i : ℕ). withGate (inputs ws + j) (usedPins ws j) (liveReadsFrom (outputWords ws) s (gatesFrom ws [] [] i (gates ws - (j + 1)))))
+    next
+    (sym (add-one j))
+
+-- a gate that has a reader, and one that has none
+pub live-added : (r : ℕ) (ps old new : List ℕ) → 0 < r → Added old ps new → Added old (readsOf r ps) new
+live-added zero ps old new l added = absurd (omega arith)
+live-added (suc r) ps old new l added = added
+
+pub dead-added : (r : ℕ) (ps counts : List ℕ) → r ≡ 0 → length counts ≡ 1036 → Added counts (readsOf r ps) counts
+dead-added zero ps counts e l = record { long = l; each = λ s. sym (add-zero (getD counts s 0)) }
+dead-added (suc r) ps counts e l = absurd (omega arith)
+
+-- a turn of the loop over gates
+pub gate-turn : (ws xs ys : List ℕ) (j : ℕ) → j < gates ws → CountsOf xs (readsAfter ws (j + 1))
+    → Added xs (gateReads ws xs j) ys
+    → CountsOf ys (readsAfter ws j)
+gate-turn ws xs ys j l h added s =
+    let rs = readsAfter ws (j + 1) in
+    let source = inputs ws + j in
+    let reads : count s (readsOf (getD xs source 0) (usedPins ws j)) ≡ ifLive (count source rs) (count s (usedPins ws j))
+    = count-reads s (getD xs source 0) (usedPins ws j) ∙ ap (λ (c : ℕ). ifLive c (count s (usedPins ws j))) (h source) in
+    omega (arith, added .each s, h s, ap (count s) (reads-step ws j l), count-with s source (usedPins ws j) rs)
+  where
+    count-reads : (t r : ℕ) (ps : List ℕ) → count t (readsOf r ps) ≡ ifLive r (count t ps)
+    count-reads t zero ps = refl
+    count-reads t (suc r) ps = refl
+
+-- at most four reads a gate and one an output
+with-length : (s : ℕ) (ps rs : List ℕ) → length (withGate s ps rs) ≤ length ps + length rs
+with-length s ps rs = go (isLive (count s rs))
+  where
+    go : (b : Bool) → length (cond b (ps ++ rs) rs) ≤ length ps + length rs
+    go true = omega (arith, length-append ps rs)
+    go false = omega arith
+
+reads-length : (ws outs : List ℕ) (s j k : ℕ) → length (liveReadsFrom outs s (gatesFrom ws [] [] j k)) ≤ length outs + 4 * k
+reads-length ws outs s j zero = omega arith
+reads-length ws outs s j (suc k) =
+    omega (
+      arith,
+      with-length s (usedPins ws j) (liveReadsFrom outs (suc s) (gatesFrom ws [] [] (suc j) k)),
+      length-take (pinCount ws j) (pins ws j),
+      length-take 4 (drop (8 + 8 * j + 2) ws),
+      reads-length ws outs (suc s) (suc j) k,
+    )
+
+-- the counts stay small
+pub few-reads : (ws xs : List ℕ) (j : ℕ) → gates ws ≤ 1024 → outputs ws ≤ 64 → length xs ≡ 1036 → CountsOf xs (readsAfter ws j) → Counts xs
+few-reads ws xs j g k l h =
+    record {
+      long = l;
+      few = λ s.
+          omega (
+            arith,
+            h s,
+            count-length s (readsAfter ws j),
+            reads-length ws (outputWords ws) (inputs ws + j) j (gates ws - j),
+            length-take (outputs ws) (drop (8 + 8 * gates ws) ws),
+          );
+    }

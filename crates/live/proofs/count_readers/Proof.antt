@@ -1,0 +1,104 @@
+-- `live::count_readers` meets its contract: the reads by the outputs and by the live ones of the gates passed are counted. Assumes nothing.
+use Prim.Native.Nat.{ℕ, _+_, _-_, _≤_}
+use mathlib.Core.Path.{_≡_, subst}
+use native.Mathlib.Nat.{le-refl}
+use native.Mathlib.Omega.{arith}
+use lib.ListN.{length}
+use Rattle.words.specs.Words.{gates}
+use Rattle.live.proofs.Net.{output-source}
+use Rattle.live.proofs.Count.{CountsOf, readsAfter, no-reads, first-reads, gate-turn, few-reads, all-reads}
+use borrow.Author.Needs.{needs}
+use Rattle.live.proofs.count_readers.Statement.{statement}
+use Rattle.live.proofs.count_readers.Tie as tie
+
+abbrev Inv-loop : tie.InvT-loop
+Inv-loop area gate₀ readers₀ gate readers = (gate ≤ gates area) × (length readers ≡ 1036) × CountsOf readers (readsAfter area gate)
+
+abbrev μ-loop : tie.MeasureT-loop
+μ-loop area gate₀ readers₀ gate readers = gate
+
+shared-slice-read-gate : tie.Need-shared-slice-read-gate Inv-loop μ-loop
+shared-slice-read-gate c = search needs
+
+cast-gate : tie.Need-cast-gate Inv-loop μ-loop
+cast-gate c = search needs
+
+mul-add-reads : tie.Need-mul-add-reads Inv-loop μ-loop
+mul-add-reads c = search needs
+
+add-add-reads : tie.Need-add-add-reads Inv-loop μ-loop
+add-add-reads c = search needs
+
+shared-slice-read-add-reads : tie.Need-shared-slice-read-add-reads Inv-loop μ-loop
+shared-slice-read-add-reads c = search needs
+
+cast-add-reads : tie.Need-cast-add-reads Inv-loop μ-loop
+cast-add-reads c = search needs
+
+add-reads-requires : tie.Need-add-reads-requires Inv-loop μ-loop
+add-reads-requires c κs =
+    let start = c .before .before .before .before in
+    let sound = start .pre in
+    (sound .long, (output-source (start .args .area .now) sound, (no-reads, sound .outputs-fit)))
+
+loop-holds : tie.Need-loop-holds Inv-loop μ-loop
+loop-holds c =
+    let ws = c .before .before .before .before .before .args .area .now in
+    (le-refl (gates ws), c .add-reads .ensures .long, first-reads ws (c .add-reads .last .0) (c .add-reads .ensures))
+
+sub-gate : tie.Need-sub-gate Inv-loop μ-loop
+sub-gate c = search needs
+
+add-gate-requires : tie.Need-add-gate-requires Inv-loop μ-loop
+add-gate-requires c κs =
+    let l = c .before .before .loop in
+    let start = c .before .before .before .before .before .before .before .before in
+    let sound = start .pre in
+    ((sound, omega arith), few-reads (start .args .area .now) (l .readers) (l .gate) (sound .gates-fit) (sound .outputs-fit) (l .inv .1) (l .inv .2))
+
+loop-less : tie.Need-loop-less Inv-loop μ-loop
+loop-less c = search needs
+
+loop-again : tie.Need-loop-again Inv-loop μ-loop
+loop-again c =
+    let l = c .before .before .before .loop in
+    let ws = c .before .before .before .before .before .before .before .before .before .args .area .now in
+    let same : l .gate ≡ l .gate - 1 + 1 = omega arith in (
+      omega arith,
+      c .add-gate .ensures .long,
+      gate-turn
+          ws
+          (l .readers)
+          (c .add-gate .last .0)
+          (l .gate - 1)
+          (omega arith)
+          (subst (λ (g : ℕ). CountsOf (l .readers) (readsAfter ws g)) same (l .inv .2))
+          (c .add-gate .ensures),
+    )
+
+returns : tie.Need-returns Inv-loop μ-loop
+returns c =
+    let l = c .before .loop in
+    let ws = c .before .before .before .before .before .before .before .args .area .now in
+    let end : l .gate ≡ 0 = omega arith in
+    all-reads ws (l .readers) (subst (λ (g : ℕ). CountsOf (l .readers) (readsAfter ws g)) end (l .inv .2))
+
+pub count-readers-spec : {M : Type 1} → statement M
+count-readers-spec =
+    tie.close
+    (tie.spec
+    Inv-loop
+    μ-loop
+    shared-slice-read-gate
+    cast-gate
+    mul-add-reads
+    add-add-reads
+    shared-slice-read-add-reads
+    cast-add-reads
+    add-reads-requires
+    loop-holds
+    sub-gate
+    add-gate-requires
+    loop-less
+    loop-again
+    returns)

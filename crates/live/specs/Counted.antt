@@ -1,0 +1,38 @@
+-- Counts of live readers, entry s for source s: how reads are added to them, and how live and shared gates are read off them.
+use Prim.Native.Nat.{ℕ, zero, suc, _+_, _≤_}
+use mathlib.Core.Bool.{cond}
+use mathlib.Core.List.{List, []}
+use mathlib.Core.Path.{_≡_}
+use lib.ListN.{length, getD}
+use lib.Dec.{leb}
+use Rattle.figure.specs.Figure.{bitOf}
+use Rattle.netlist.specs.Live.{count, isLive}
+use Rattle.words.specs.Words.{inputs, usedPins}
+
+-- counts that take further reads: room for 12 inputs and 1,024 gates, and none above what 64 outputs and four pins a gate come to
+pub record Counts (counts : List ℕ) : Type 0 where
+  pub long : length counts ≡ 1036
+  pub few : (s : ℕ) → getD counts s 0 ≤ 4160
+
+-- new is old with the reads rs added
+pub record Added (old rs new : List ℕ) : Type 0 where
+  pub long : length new ≡ 1036
+  pub each : (s : ℕ) → getD new s 0 ≡ getD old s 0 + count s rs
+
+-- what a gate with so many readers reads: nothing if it is dead
+abbrev pub readsOf : ℕ → List ℕ → List ℕ
+readsOf readers pins = cond (isLive readers) pins []
+
+-- what gate j of the words reads, by these counts
+abbrev pub gateReads : List ℕ → List ℕ → ℕ → List ℕ
+gateReads ws counts j = readsOf (getD counts (inputs ws + j) 0) (usedPins ws j)
+
+-- how many of the k sources from s on have a reader
+abbrev pub liveCounted : List ℕ → ℕ → ℕ → ℕ
+liveCounted counts s zero = 0
+liveCounted counts s (suc k) = bitOf (isLive (getD counts s 0)) + liveCounted counts (suc s) k
+
+-- the lowest of k gates, the first of which is source s, with two readers or more; k if there is none
+abbrev pub sharedCounted : List ℕ → ℕ → ℕ → ℕ
+sharedCounted counts s zero = 0
+sharedCounted counts s (suc k) = cond (leb 2 (getD counts s 0)) 0 (suc (sharedCounted counts (suc s) k))

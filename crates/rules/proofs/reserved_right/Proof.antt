@@ -1,0 +1,38 @@
+-- `rules::reserved_right` meets its contract: each test that fails decides. Assumes nothing.
+use mathlib.Core.Bool.{true, false}
+use mathlib.Core.Path.{refl, sym}
+use borrow.Author.Tests.{eq-eqb, ne-eqb}
+use borrow.Author.Needs.{needs}
+use Rattle.rules.proofs.Parts.{reserved-is}
+use Rattle.rules.proofs.reserved_right.Statement.{statement}
+use Rattle.rules.proofs.reserved_right.Tie as tie
+
+shared-slice-read-if1 : tie.Need-shared-slice-read-if1
+shared-slice-read-if1 c = search needs
+
+returns : tie.Need-returns
+returns c = sym (reserved-is (c .before .before .args .area .now) false _ _ (ne-eqb _ _ (c .if1 .taken)) refl refl)
+
+shared-slice-read-if2 : tie.Need-shared-slice-read-if2
+shared-slice-read-if2 c = search needs
+
+returns-2 : tie.Need-returns-2
+returns-2 c = sym (reserved-is (c .before .before .before .before .args .area .now) true false _ (eq-eqb _ _ (c .before .before .if1 .left)) (ne-eqb _ _ (c .if2 .taken)) refl)
+
+shared-slice-read-result : tie.Need-shared-slice-read-result
+shared-slice-read-result c = search needs
+
+returns-3 : tie.Need-returns-3
+returns-3 c =
+    sym (reserved-is (c .before .before .before .before .before .args .area .now) true true _ (eq-eqb _ _ (c .before .before .before .if1 .left)) (eq-eqb _ _ (c .before .if2 .left)) refl)
+
+pub reserved-right-spec : {M : Type 1} → statement M
+reserved-right-spec =
+    tie.close
+    (tie.spec
+    shared-slice-read-if1
+    returns
+    shared-slice-read-if2
+    returns-2
+    shared-slice-read-result
+    returns-3)

@@ -1,0 +1,5 @@
+pub mod Frame
+pub mod Pattern
+pub mod Sound
+pub mod Loops
+pub mod Bit
