@@ -1,28 +1,19 @@
 -- One gate: its refusals and its words from what the code read and was answered. Assumes nothing.
-use Prim.Native.Nat.{ℕ, _+_, _≤_}
-use mathlib.Core.Path.{_≡_, refl, sym, ap, _∙_}
+use Prim.Native.Nat.{ℕ, _+_}
+use mathlib.Core.Path.{_≡_, sym, ap, _∙_}
 use mathlib.Core.Bool.{Bool, true, false}
 use mathlib.Core.List.{List, [], _∷_}
-use lib.Dec.{leb}
 use lib.ListN.{getD}
-use borrow.Author.Tests.{leb-true}
 use Rattle.rounding.specs.Rounding.{unitsInOne, toUnits}
 use Rattle.chance.specs.Number.{chanceScale}
 use Rattle.chance.specs.Flip.{flipAccepted, flipChance}
-use Rattle.chance.proofs.Laws.{and-true}
 use Rattle.words.specs.Rules.{gateShape, usedBelow}
 use Rattle.image.specs.declared.Gate.{Gate}
-use Rattle.image.specs.declared.Loaded.the-variants.{Done, Refused}
-use Rattle.image.specs.Judgement.{Judgement, fine, refusal, loaded}
+use Rattle.image.specs.Judgement.{fine, refusal}
 use Rattle.image.specs.Image.{recordCount, recordKind, recordTable, recordPins, recordField}
 use Rattle.image.specs.Refusals.{gateRefusal}
 use Rattle.image.specs.Loading.{recordChance, recordUnits, gateWords}
 use Rattle.image.specs.Record.{gateRecord}
-
--- rule 5 has the pin count at most 4
-pub shape-count : (a table : ℕ) (ps : List ℕ) → gateShape a table ps ≡ true → a ≤ 4
-unfolding gateShape
-shape-count a table ps e = leb-true a 4 (and-true (leb a 4) _ e .0)
 
 module _ (m : List ℕ) (n j : ℕ) where
   -- 5, 6, 7 from the three tests

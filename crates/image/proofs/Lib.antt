@@ -3,3 +3,5 @@ pub mod Sets
 pub mod Trailer
 pub mod Gates
 pub mod Middle
+pub mod Joined
+pub mod Sound

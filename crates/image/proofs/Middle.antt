@@ -6,8 +6,7 @@ use native.Mathlib.Omega.{arith}
 use lib.ListN.{length, drop, length-append}
 use lib.Seq.{sets, sets-eq}
 use Rattle.image.specs.declared.Loaded.{Loaded}
-use Rattle.image.specs.declared.Loaded.the-variants.{Done, Refused}
-use Rattle.image.specs.Judgement.{Judgement, fine, refusal, loaded, lowest, joined}
+use Rattle.image.specs.Judgement.{fine, refusal, loaded, lowest, joined}
 use Rattle.image.specs.Image.{imageInputs, imageGates, imageOutputs, middle}
 use Rattle.image.specs.Refusals.{gateRefusal, outputRefusal, middleRefusal, trailerRefusal, imageRefusal}
 use Rattle.image.specs.Loading.{headWords, gateWords, outputWord, middleWords, imageWords}

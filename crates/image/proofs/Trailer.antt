@@ -1,16 +1,16 @@
 -- The trailer: its tests from their facts, and the facts from a trailer without a refusal. Assumes nothing.
-use Prim.Native.Nat.{ℕ, _+_, _-_, _*_, _<_, _≤_}
-use mathlib.Core.Path.{_≡_, refl, sym, ap, _∙_}
-use mathlib.Core.Bool.{Bool, true, false, _&&_}
+use Prim.Native.Nat.{ℕ, _+_, _-_, _*_, _≤_}
+use mathlib.Core.Path.{_≡_, sym, ap, _∙_}
+use mathlib.Core.Bool.{Bool, true, _&&_}
 use mathlib.Core.List.{List}
-use borrow.Author.Tests.{le-leb, lt-leb, eq-eqb, ne-eqb, leb-true, eqb-true}
+use borrow.Author.Tests.{le-leb, eq-eqb, leb-true, eqb-true}
 use native.Mathlib.Omega.{arith}
 use lib.ListN.{length, take, drop, length-drop}
 use lib.Seq.{length-take-le}
 use lib.Dec.{leb, eqb}
-use Rattle.chance.proofs.Laws.{and-true}
 use Rattle.words.specs.Rules.{countsInRange}
-use Rattle.image.specs.Judgement.{Judgement, fine, demand, otherwise}
+use Rattle.rules.proofs.Facts.{both, counts-hold}
+use Rattle.image.specs.Judgement.{fine, demand}
 use Rattle.image.specs.Image.{trailerAt, imageInputs, imageGates, imageOutputs, imageFormat, imageBack, imageTotal, middle}
 use Rattle.image.specs.Refusals.{lengthRight, backRight, trailerRefusal, TrailerRight}
 use Rattle.image.proofs.Judged.{demand-fine, otherwise-fine}
@@ -20,7 +20,7 @@ unfolding lengthRight
 length-right bs low high total = simp (le-leb 16 (length bs) low, le-leb (length bs) 32_768 high, eq-eqb (imageTotal bs) (length bs) total)
 
 pub trailer-right : (bs : List ℕ) → trailerRefusal bs ≡ fine → TrailerRight bs
-unfolding trailerRefusal lengthRight countsInRange backRight
+unfolding trailerRefusal lengthRight backRight
 trailer-right bs e =
     let n = imageInputs bs in
     let g = imageGates bs in
@@ -28,21 +28,19 @@ trailer-right bs e =
     let one = otherwise-fine (demand (lengthRight bs) 1 0) _ e in
     let two = otherwise-fine (demand (eqb (imageFormat bs) 1) 2 0) _ (one .1) in
     let three = otherwise-fine (demand (countsInRange n g k) 3 0) (demand (backRight bs) 4 0) (two .1) in
-    let a = and-true (leb 16 (length bs)) _ (demand-fine (lengthRight bs) 1 0 (one .0)) in
-    let b = and-true (leb (length bs) 32_768) (eqb (imageTotal bs) (length bs)) (a .1) in
-    let p = and-true (leb n 12) _ (demand-fine (countsInRange n g k) 3 0 (three .0)) in
-    let q = and-true (leb g 1024) _ (p .1) in
-    let r = and-true (leb 1 k) (leb k 64) (q .1) in
-    let s = and-true (eqb (imageBack bs) (20 * g + 2 * k)) (leb (imageBack bs) (trailerAt bs)) (demand-fine (backRight bs) 4 0 (three .1)) in
+    let a = both (leb 16 (length bs)) _ (demand-fine (lengthRight bs) 1 0 (one .0)) in
+    let b = both (leb (length bs) 32_768) (eqb (imageTotal bs) (length bs)) (a .1) in
+    let counts = counts-hold n g k (demand-fine (countsInRange n g k) 3 0 (three .0)) in
+    let s = both (eqb (imageBack bs) (20 * g + 2 * k)) (leb (imageBack bs) (trailerAt bs)) (demand-fine (backRight bs) 4 0 (three .1)) in
     record {
       low = leb-true 16 (length bs) (a .0);
       high = leb-true (length bs) 32_768 (b .0);
       total = eqb-true (imageTotal bs) (length bs) (b .1);
       format = eqb-true (imageFormat bs) 1 (demand-fine (eqb (imageFormat bs) 1) 2 0 (two .0));
-      inputs-fit = leb-true n 12 (p .0);
-      gates-fit = leb-true g 1024 (q .0);
-      some-output = leb-true 1 k (r .0);
-      outputs-fit = leb-true k 64 (r .1);
+      inputs-fit = counts .0;
+      gates-fit = counts .1;
+      some-output = counts .2;
+      outputs-fit = counts .3;
       back = eqb-true (imageBack bs) (20 * g + 2 * k) (s .0);
       inside = leb-true (imageBack bs) (trailerAt bs) (s .1);
     }

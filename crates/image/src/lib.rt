@@ -6,7 +6,6 @@ ghost use mathlib.Core.List.{_++_};
 ghost use lib.ListN.{length, drop};
 ghost use lib.Dec.{leb, eqb};
 ghost use lib.Seq.{sets};
-ghost use Rattle.words.specs.Rules.{countsInRange};
 ghost use Rattle.image.specs.Judgement.{fine, loaded, joined, lowest};
 ghost use Rattle.image.specs.Image.{u16At, u32At, imageInputs, imageGates, imageOutputs, middle, recordPins, recordField};
 ghost use Rattle.image.specs.Refusals.{trailerRefusal, TrailerRight, gateRefusal, outputRefusal, middleRefusal, imageRefusal};
@@ -223,21 +222,6 @@ fn load_middle(middle: &[u8], n: u32, gates: u32, outputs: u32, words: &mut [u32
     }
 }
 
-fn counts_in_range(n: u32, gates: u32, outputs: u32) -> bool
-    ensures { λ r. ⌜ r ≡ countsInRange n gates outputs ⌝ }
-{
-    if n > 12 {
-        return false;
-    }
-    if gates > 1024 {
-        return false;
-    }
-    if outputs < 1 {
-        return false;
-    }
-    outputs <= 64
-}
-
 // Whether the way back from the trailer at `at` is that of all records and output words, and stays inside the image.
 fn back_right(back: u32, gates: u32, outputs: u32, at: u32) -> bool
     requires { ⌜ (gates < 65_536) × (outputs < 65_536) ⌝ }
@@ -269,7 +253,7 @@ fn judge_trailer(image: &[u8]) -> Loaded
     }
     let gates = two_bytes(image, at + 2);
     let outputs = two_bytes(image, at + 4);
-    if !counts_in_range(two_bytes(image, at), gates, outputs) {
+    if !rules::counts_in_range(two_bytes(image, at), gates, outputs) {
         return Loaded::Refused(3, 0);
     }
     if !back_right(four_bytes(image, at + 8), gates, outputs, at as u32) {

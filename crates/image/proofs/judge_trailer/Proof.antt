@@ -1,14 +1,12 @@
 -- `image::judge_trailer` meets its contract: the first test that fails decides. Assumes nothing.
 -- `image::judge_trailer` meets its contract: the first test that fails decides. Assumes nothing.
-use Prim.Native.Nat.{ℕ}
-use mathlib.Core.Path.{_≡_, refl, sym, ap, _∙_}
+use mathlib.Core.Path.{sym, _∙_}
 use lib.ListN.{length}
 use denote.Ref.{now}
 use borrow.Author.Tests.{lt-leb, le-leb, eq-eqb, ne-eqb, not-true, not-false}
 use borrow.Author.Needs.{needs}
-use Rattle.words.specs.Rules.{countsInRange}
-use Rattle.image.specs.Refusals.{lengthRight, backRight, trailerRefusal}
-use Rattle.image.specs.Image.{trailerAt, imageInputs, imageGates, imageOutputs, imageFormat, imageBack, imageTotal}
+use Rattle.image.specs.Refusals.{lengthRight, trailerRefusal}
+use Rattle.image.specs.Image.{imageFormat, imageTotal}
 use Rattle.image.proofs.Trailer.{length-right}
 use Rattle.image.proofs.Trailer.{length-right, counts-from, back-from}
 use Rattle.image.proofs.judge_trailer.Statement.{statement}
@@ -33,7 +31,8 @@ cast-if3 c = search needs
 
 returns-3 : tie.Need-returns-3
 unfolding trailerRefusal lengthRight
-returns-3 c = let bs = now (c .before .before .before .before .before .args .image) in
+returns-3 c =
+    let bs = now (c .before .before .before .before .before .args .image) in
     simp (
       le-leb 16 (length bs) (c .before .before .before .if1 .left),
       le-leb (length bs) 32_768 (c .before .before .if2 .left),
@@ -48,7 +47,8 @@ two-bytes-requires c κs = search needs
 
 returns-4 : tie.Need-returns-4
 unfolding trailerRefusal
-returns-4 c = let bs = now (c .before .before .before .before .before .before .before .args .image) in
+returns-4 c =
+    let bs = now (c .before .before .before .before .before .before .before .args .image) in
     simp (length-right bs (c .before .before .before .before .before .if1 .left) (c .before .before .before .before .if2 .left) (sym (c .before .before .before .four-bytes .ensures) ∙ c .before .before .if3 .left), ne-eqb (imageFormat bs) 1 (λ e. c .if4 .taken (c .before .two-bytes .ensures .0 ∙ e)))
 
 add-two-bytes-2 : tie.Need-add-two-bytes-2
@@ -71,7 +71,8 @@ counts-in-range-requires c κs = search needs
 
 returns-5 : tie.Need-returns-5
 unfolding trailerRefusal
-returns-5 c = let bs = now (c .before .before .before .before .before .before .before .before .before .before .before .before .args .image) in
+returns-5 c =
+    let bs = now (c .before .before .before .before .before .before .before .before .before .before .before .before .args .image) in
     simp (length-right bs (c .before .before .before .before .before .before .before .before .before .before .if1 .left) (c .before .before .before .before .before .before .before .before .before .if2 .left) (sym (c .before .before .before .before .before .before .before .before .four-bytes .ensures) ∙ c .before .before .before .before .before .before .before .if3 .left), eq-eqb (imageFormat bs) 1 (sym (c .before .before .before .before .before .before .two-bytes .ensures .0) ∙ c .before .before .before .before .before .if4 .left), counts-from bs _ _ _ _ (c .before .before .two-bytes4 .ensures .0) (c .before .before .before .before .two-bytes2 .ensures .0) (c .before .before .before .two-bytes3 .ensures .0) (c .before .counts-in-range .ensures), not-true (c .before .counts-in-range .result) (c .if5 .taken))
 
 add-four-bytes-2 : tie.Need-add-four-bytes-2
@@ -88,12 +89,14 @@ back-right-requires c κs = search needs
 
 returns-6 : tie.Need-returns-6
 unfolding trailerRefusal
-returns-6 c = let bs = now (c .before .before .before .before .before .before .before .before .before .before .before .before .before .before .before .args .image) in
+returns-6 c =
+    let bs = now (c .before .before .before .before .before .before .before .before .before .before .before .before .before .before .before .args .image) in
     simp (length-right bs (c .before .before .before .before .before .before .before .before .before .before .before .before .before .if1 .left) (c .before .before .before .before .before .before .before .before .before .before .before .before .if2 .left) (sym (c .before .before .before .before .before .before .before .before .before .before .before .four-bytes .ensures) ∙ c .before .before .before .before .before .before .before .before .before .before .if3 .left), eq-eqb (imageFormat bs) 1 (sym (c .before .before .before .before .before .before .before .before .before .two-bytes .ensures .0) ∙ c .before .before .before .before .before .before .before .before .if4 .left), counts-from bs _ _ _ _ (c .before .before .before .before .before .two-bytes4 .ensures .0) (c .before .before .before .before .before .before .before .two-bytes2 .ensures .0) (c .before .before .before .before .before .before .two-bytes3 .ensures .0) (c .before .before .before .before .counts-in-range .ensures), not-false (c .before .before .before .before .counts-in-range .result) (c .before .before .before .if5 .left), back-from bs _ _ _ _ (c .before .before .four-bytes2 .ensures) (c .before .before .before .before .before .before .before .two-bytes2 .ensures .0) (c .before .before .before .before .before .before .two-bytes3 .ensures .0) (c .before .back-right .ensures), not-true (c .before .back-right .result) (c .if6 .taken))
 
 returns-7 : tie.Need-returns-7
 unfolding trailerRefusal
-returns-7 c = let bs = now (c .before .before .before .before .before .before .before .before .before .before .before .before .before .before .before .args .image) in
+returns-7 c =
+    let bs = now (c .before .before .before .before .before .before .before .before .before .before .before .before .before .before .before .args .image) in
     simp (length-right bs (c .before .before .before .before .before .before .before .before .before .before .before .before .before .if1 .left) (c .before .before .before .before .before .before .before .before .before .before .before .before .if2 .left) (sym (c .before .before .before .before .before .before .before .before .before .before .before .four-bytes .ensures) ∙ c .before .before .before .before .before .before .before .before .before .before .if3 .left), eq-eqb (imageFormat bs) 1 (sym (c .before .before .before .before .before .before .before .before .before .two-bytes .ensures .0) ∙ c .before .before .before .before .before .before .before .before .if4 .left), counts-from bs _ _ _ _ (c .before .before .before .before .before .two-bytes4 .ensures .0) (c .before .before .before .before .before .before .before .two-bytes2 .ensures .0) (c .before .before .before .before .before .before .two-bytes3 .ensures .0) (c .before .before .before .before .counts-in-range .ensures), not-false (c .before .before .before .before .counts-in-range .result) (c .before .before .before .if5 .left), back-from bs _ _ _ _ (c .before .before .four-bytes2 .ensures) (c .before .before .before .before .before .before .before .two-bytes2 .ensures .0) (c .before .before .before .before .before .before .two-bytes3 .ensures .0) (c .before .back-right .ensures), not-false (c .before .back-right .result) (c .if6 .left))
 
 pub judge-trailer-spec : {M : Type 1} → statement M

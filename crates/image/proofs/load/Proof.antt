@@ -1,6 +1,6 @@
 -- `image::load` meets its contract. Assumes nothing.
 use Prim.Native.Nat.{_≤_}
-use mathlib.Core.Path.{_≡_, refl, sym, ap, _∙_}
+use mathlib.Core.Path.{sym, ap, _∙_}
 use native.Mathlib.Omega.{arith}
 use lib.ListN.{length}
 use denote.Ref.{now}
@@ -20,7 +20,8 @@ enum-told : tie.Need-enum-told
 enum-told c = search needs
 
 load-netlist-requires : tie.Need-load-netlist-requires
-load-netlist-requires c κs = let bs = now (c .before .before .before .before .before .before .args .image) in
+load-netlist-requires c κs =
+    let bs = now (c .before .before .before .before .before .before .args .image) in
     (trailer-right bs (done-fine (trailerRefusal bs) (sym (c .before .before .before .judge-trailer .ensures) ∙ c .before .enum-told .given .1)), search needs)
 
 enum-known-number : tie.Need-enum-known-number
@@ -30,7 +31,8 @@ same-length : tie.Need-same-length
 same-length c = search needs
 
 returns : tie.Need-returns
-returns c = let bs = now (c .before .before .before .before .before .before .before .before .before .args .image) in
+returns c =
+    let bs = now (c .before .before .before .before .before .before .before .before .before .args .image) in
     let net = c .before .before .load-netlist in
     let passed = done-fine (trailerRefusal bs) (sym (c .before .before .before .before .before .before .judge-trailer .ensures) ∙ c .before .before .before .before .enum-told .given .1) in
     let answer = net .ensures .0 ∙ ap loaded (sym (image-second bs passed)) in
@@ -39,7 +41,8 @@ returns c = let bs = now (c .before .before .before .before .before .before .bef
     (answer, λ e. stored-front bs (now (c .before .before .before .before .before .before .before .before .before .args .words)) _ (omega arith) (net .ensures .1 (answer ∙ ap loaded e)))
 
 returns-2 : tie.Need-returns-2
-returns-2 c = let bs = now (c .before .before .before .before .before .before .args .image) in
+returns-2 c =
+    let bs = now (c .before .before .before .before .before .before .args .image) in
     let told = c .before .number .given in
     let refused = image-first bs (told .0 .0) (told .0 .1 .0) (refused-is (trailerRefusal bs) (told .0 .0) (told .0 .1 .0) (sym (c .before .before .before .judge-trailer .ensures) ∙ told .1)) in
     (ap loaded (sym refused), λ e. absurd (never-both (imageRefusal bs) (told .0 .0) (told .0 .1 .0) e refused))

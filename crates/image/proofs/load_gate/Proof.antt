@@ -1,14 +1,15 @@
 -- `image::load_gate` meets its contract: the first of the three tests that fails decides, and a gate that passes is written. Assumes nothing.
-use Prim.Native.Nat.{ℕ, _+_, _*_}
+use Prim.Native.Nat.{_+_, _*_}
 use mathlib.Core.Bool.{true, false}
-use mathlib.Core.Path.{_≡_, refl, sym, ap, _∙_}
+use mathlib.Core.Path.{sym, ap, _∙_}
 use lib.Seq.{sets}
 use denote.Ref.{now}
 use borrow.Author.Tests.{not-true, not-false}
 use borrow.Author.Needs.{needs}
 use Rattle.chance.proofs.Laws.{units-accepted, units-refused}
+use Rattle.rules.proofs.Facts.{shape-holds}
 use Rattle.image.specs.Judgement.{loaded}
-use Rattle.image.proofs.Gates.{shape-count, shape-from, used-from, flip-from, gate-5, gate-6, gate-7, gate-fine, words-of}
+use Rattle.image.proofs.Gates.{shape-from, used-from, flip-from, gate-5, gate-6, gate-7, gate-fine, words-of}
 use Rattle.image.proofs.Judged.{refused-not-done}
 use Rattle.image.proofs.load_gate.Statement.{statement}
 use Rattle.image.proofs.load_gate.Tie as tie
@@ -23,7 +24,8 @@ cast-t12 : tie.Need-cast-t12
 cast-t12 c = search needs
 
 returns : tie.Need-returns
-returns c = let a = c .before .before .before .before .before .before .before .args in
+returns c =
+    let a = c .before .before .before .before .before .before .before .args in
     let m = now (a .middle) in
     let g = c .before .before .before .before .read-gate in
     let shape = shape-from m (a .j) (g .result) (g .ensures) (c .before .gate-shape .result) (c .before .gate-shape .ensures) in
@@ -36,15 +38,18 @@ add-used-below : tie.Need-add-used-below
 add-used-below c = search needs
 
 used-below-requires : tie.Need-used-below-requires
-used-below-requires c κs = let g = c .before .before .before .before .read-gate in
-    shape-count (g .result .count) (g .result .table) (g .result .pins)
+used-below-requires c κs =
+    let g = c .before .before .before .before .read-gate in
+    shape-holds (g .result .count) (g .result .table) (g .result .pins)
     (sym (c .before .gate-shape .ensures) ∙ not-false (c .before .gate-shape .result) (c .if1 .left))
+    .pin-count
 
 cast-t15 : tie.Need-cast-t15
 cast-t15 c = search needs
 
 returns-2 : tie.Need-returns-2
-returns-2 c = let a = c .before .before .before .before .before .before .before .before .before .args in
+returns-2 c =
+    let a = c .before .before .before .before .before .before .before .before .before .args in
     let m = now (a .middle) in
     let g = c .before .before .before .before .before .before .read-gate in
     let shape = shape-from m (a .j) (g .result) (g .ensures) (c .before .before .before .gate-shape .result) (c .before .before .before .gate-shape .ensures) in
@@ -88,7 +93,8 @@ same-length : tie.Need-same-length
 same-length c = search needs
 
 returns-3 : tie.Need-returns-3
-returns-3 c = let a = c .before .before .before .before .before .before .before .before .before .before .before .before .before .before .before .before .before .args in
+returns-3 c =
+    let a = c .before .before .before .before .before .before .before .before .before .before .before .before .before .before .before .before .before .args in
     let m = now (a .middle) in
     let g = c .before .before .before .before .before .before .before .before .before .before .before .before .before .before .read-gate in
     let shape = shape-from m (a .j) (g .result) (g .ensures) (c .before .before .before .before .before .before .before .before .before .before .before .gate-shape .result) (c .before .before .before .before .before .before .before .before .before .before .before .gate-shape .ensures) in
@@ -100,7 +106,8 @@ returns-3 c = let a = c .before .before .before .before .before .before .before 
     )
 
 returns-4 : tie.Need-returns-4
-returns-4 c = let a = c .before .before .before .before .before .before .before .before .before .before .before .before .args in
+returns-4 c =
+    let a = c .before .before .before .before .before .before .before .before .before .before .before .before .args in
     let m = now (a .middle) in
     let g = c .before .before .before .before .before .before .before .before .before .read-gate in
     let shape = shape-from m (a .j) (g .result) (g .ensures) (c .before .before .before .before .before .before .gate-shape .result) (c .before .before .before .before .before .before .gate-shape .ensures) in

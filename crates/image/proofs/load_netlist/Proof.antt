@@ -1,6 +1,6 @@
 -- `image::load_netlist` meets its contract: the part is the middle. Assumes nothing.
-use Prim.Native.Nat.{ℕ, _-_}
-use mathlib.Core.Path.{_≡_, refl, sym, ap, _∙_}
+use Prim.Native.Nat.{_-_}
+use mathlib.Core.Path.{ap, _∙_}
 use native.Mathlib.Omega.{arith}
 use lib.Seq.{sets}
 use lib.ListN.{take, drop}
@@ -52,7 +52,8 @@ part-load-middle-end : tie.Need-part-load-middle-end
 part-load-middle-end c = search needs
 
 load-middle-requires : tie.Need-load-middle-requires
-load-middle-requires c κs = let a = c .before .before .before .before .before .before .before .before .args in
+load-middle-requires c κs =
+    let a = c .before .before .before .before .before .before .before .before .args in
     let t = c .before .before .before .before .before .before .before .before .pre .0 in
     let whole = part-middle (now (a .image)) (c .before .before .four-bytes .result) t (c .before .before .four-bytes .ensures) in
     let n = length-of-middle (now (a .image)) t in
@@ -62,7 +63,8 @@ same-length : tie.Need-same-length
 same-length c = search needs
 
 returns : tie.Need-returns
-returns c = let bs = now (c .before .before .before .before .before .before .before .before .before .before .before .args .image) in
+returns c =
+    let bs = now (c .before .before .before .before .before .before .before .before .before .before .before .args .image) in
     let t = c .before .before .before .before .before .before .before .before .before .before .before .pre .0 in
     let n = c .before .before .before .before .before .before .before .before .two-bytes in
     let g = c .before .before .before .before .before .before .before .two-bytes2 in

@@ -1,6 +1,7 @@
 -- `image::load_output` meets its contract. Assumes nothing.
 use Prim.Native.Nat.{ℕ, _+_, _*_, _≤_, _<_}
-use mathlib.Core.Path.{_≡_, refl, sym, ap, _∙_}
+use mathlib.Core.Path.{ap}
+use native.Mathlib.Omega.{arith}
 use lib.ListN.{set}
 use denote.Ref.{now}
 use borrow.Author.Tests.{lt-ltb, le-ltb}
@@ -34,8 +35,9 @@ cast-t13 c = search needs
 
 returns : tie.Need-returns
 unfolding outputRefusal
-returns c = let a = c .before .before .before .before .args in
-    let far : a .n + a .gates ≤ outputAt (now (a .middle)) (a .gates) (a .k) = rw (c .before .two-bytes .ensures .0) at (c .if1 .taken) in
+returns c =
+    let a = c .before .before .before .before .args in
+    let far : a .n + a .gates ≤ outputAt (now (a .middle)) (a .gates) (a .k) = omega (arith, c .before .two-bytes .ensures .0, c .if1 .taken) in
     (simp (le-ltb (outputAt (now (a .middle)) (a .gates) (a .k)) (a .n + a .gates) far), λ e. refused-not-done 8 (a .k) e)
 
 mul-words : tie.Need-mul-words
@@ -58,8 +60,9 @@ same-length c = search needs
 
 returns-2 : tie.Need-returns-2
 unfolding outputRefusal
-returns-2 c = let a = c .before .before .before .before .args in
-    let near : outputAt (now (a .middle)) (a .gates) (a .k) < a .n + a .gates = rw (c .before .two-bytes .ensures .0) at (c .if1 .left) in (
+returns-2 c =
+    let a = c .before .before .before .before .args in
+    let near : outputAt (now (a .middle)) (a .gates) (a .k) < a .n + a .gates = omega (arith, c .before .two-bytes .ensures .0, c .if1 .left) in (
       simp (lt-ltb (outputAt (now (a .middle)) (a .gates) (a .k)) (a .n + a .gates) near),
       λ e. ap (λ (v : ℕ). set (now (a .words)) (8 + 8 * a .gates + a .k) v) (c .before .two-bytes .ensures .0),
     )

@@ -1,6 +1,6 @@
 -- `image::write_eight` meets its contract: after i turns the first i values are stored. Assumes nothing.
-use Prim.Native.Nat.{ℕ, _+_, _-_, _≤_}
-use mathlib.Core.Path.{_≡_, refl, sym, ap, _∙_}
+use Prim.Native.Nat.{_-_, _≤_}
+use mathlib.Core.Path.{_≡_, refl, ap, _∙_}
 use native.Mathlib.Omega.{arith}
 use lib.Seq.{take-all}
 use lib.Seq.{sets}
@@ -42,7 +42,8 @@ loop-less : tie.Need-loop-less Inv-loop μ-loop
 loop-less c = search needs
 
 loop-again : tie.Need-loop-again Inv-loop μ-loop
-loop-again c = let l = c .before .loop in
+loop-again c =
+    let l = c .before .loop in
     let a = c .before .before .args in (
       omega arith,
       simp length-set (l .inv .1),
@@ -54,7 +55,8 @@ same-length : tie.Need-same-length Inv-loop μ-loop
 same-length c = search needs
 
 returns : tie.Need-returns Inv-loop μ-loop
-returns c = let l = c .before .loop in
+returns c =
+    let l = c .before .loop in
     let a = c .before .before .args in
     let end : l .i ≡ 8 = omega arith in
     let all : take (l .i) (a .t3) ≡ a .t3 = take-all (l .i) (a .t3) (omega arith) in
