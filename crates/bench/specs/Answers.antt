@@ -6,6 +6,8 @@ use lib.Ieee.Exact.{HasValue}
 use mathlib.Core.Bool.{false}
 use Rattle.rounding.specs.Rounding.{unitsInOne}
 use Rattle.image.specs.Judgement.{Judgement, fine, refusal}
+use Rattle.bench.specs.declared.Opened.{Opened}
+use Rattle.bench.specs.declared.Opened.the-variants.{Done as OpenDone, Refused as OpenRefused}
 use Rattle.bench.specs.declared.Toggled.{Toggled}
 use Rattle.bench.specs.declared.Toggled.the-variants.{Done as ToggleDone, Refused as ToggleRefused}
 use Rattle.bench.specs.declared.FlipSet.{FlipSet}
@@ -14,6 +16,11 @@ use Rattle.bench.specs.declared.NetlistRead.{NetlistRead}
 use Rattle.bench.specs.declared.NetlistRead.the-variants.{Done as NetlistDone, Refused as NetlistRefused}
 use Rattle.bench.specs.declared.GateRead.{GateRead}
 use Rattle.bench.specs.declared.GateRead.the-variants.{Done as GateDone, Refused as GateRefused}
+
+-- the number of live gates
+abbrev pub opened : Judgement → ℕ → Opened
+opened fine live = OpenDone live
+opened (refusal number place) live = OpenRefused number place
 
 abbrev pub toggled : Judgement → Toggled
 toggled fine = ToggleDone

@@ -1,16 +1,27 @@
 // The six calls of the bench. Each judges its input first: a refused call changes no word.
 ghost use mathlib.Core.Path.{_≡_};
-ghost use Prim.Native.Nat.{_/_, _%_};
-ghost use Rattle.words.specs.Words.{pattern, reliabilityWord, figure};
-ghost use Rattle.words.specs.Rules.{areaRefusal};
+ghost use Prim.Native.Nat.{ℕ, _/_, _%_, _≤_};
+ghost use mathlib.Core.List.{List, [], _++_};
+ghost use lib.ListN.{length, take, drop};
+ghost use Rattle.netlist.specs.Live.{liveGates};
+ghost use Rattle.live.specs.Net.{netOf};
+ghost use Rattle.words.specs.Words.{gates, outputs, needed, pattern, reliabilityWord, figure};
+ghost use Rattle.words.specs.Rules.{Sound, areaRefusal};
 ghost use Rattle.words.specs.Work.{toggleWords, setWords};
-ghost use Rattle.calls.specs.Judged.{areaJudgement, toggleJudgement, setJudgement, gateJudgement};
-ghost use Rattle.calls.specs.Calls.{leftBy, flipUnits};
-ghost use Rattle.bench.specs.Answers.{toggled, flipSet, gateRead, NetlistAnswer};
+ghost use Rattle.calls.specs.Judged.{openJudgement, areaJudgement, toggleJudgement, setJudgement, gateJudgement};
+ghost use Rattle.calls.specs.Calls.{leftBy, openWords, openLive, flipUnits};
+ghost use Rattle.bench.specs.Loaded.{loadedJudgement, loadedWords};
+ghost use Rattle.bench.specs.Answers.{opened, toggled, flipSet, gateRead, NetlistAnswer};
 use chance::FlipUnits;
+use image::Loaded;
 use rules::Judged;
 
 // The answers: done with its result, or refused with number and place.
+pub enum Opened {
+    Done(u32),
+    Refused(u8, u32),
+}
+
 pub enum Toggled {
     Done,
     Refused(u8, u32),
@@ -35,6 +46,12 @@ pub enum GateRead {
     Refused(u8, u32),
 }
 
+fn index(word: u32) -> usize
+    ensures { λ r. ⌜ r ≡ word ⌝ }
+{
+    word as usize
+}
+
 // Refusal 13 or 14 of the area, or 0.
 fn area_refusal(area: &[u32]) -> u8
     ensures { λ r. ⌜ r ≡ areaRefusal (now (area .entry)) ⌝ }
@@ -43,6 +60,54 @@ fn area_refusal(area: &[u32]) -> u8
     match judged {
         Judged::Sound => 0,
         Judged::Refused(number) => number,
+    }
+}
+
+// Copies the first `count` words.
+fn copy_words(area: &mut [u32], words: &[u32], count: usize)
+    requires { ⌜ (count ≤ length (now area)) × (count ≤ length (now words)) ⌝ }
+    ensures { λ _. ⌜ now (area .exit) ≡ take count (now (words .entry)) ++ drop count (now (area .entry)) ⌝ }
+{
+    let mut i = 0;
+    while i < count {
+        area[i] = words[i];
+        i += 1;
+    }
+}
+
+// Refusals 9 and 13 of a loaded image; if neither applies its words go into the area, and every figure is worked out.
+fn open_loaded(area: &mut [u32], words: &[u32]) -> Opened
+    requires { ⌜ Sound (now words) ⌝ }
+    requires { ⌜ ((rest : List ℕ) → Sound (take (needed (gates (now words)) (outputs (now words))) (now words) ++ rest)) ⌝ }
+    ensures { λ r. ⌜ r ≡ opened (loadedJudgement (now (words .entry)) (length (now (area .entry)))) (liveGates (netOf (now (words .entry)) [] [])) ⌝ }
+    ensures { λ _. ⌜ now (area .exit) ≡ leftBy (loadedJudgement (now (words .entry)) (length (now (area .entry)))) (loadedWords (now (words .entry)) (now (area .entry))) (now (area .entry)) ⌝ }
+{
+    let n = index(words[0]);
+    let g = index(words[1]);
+    let needed = 8 + 8 * g + index(words[2]);
+    let readers = live::count_readers(words);
+    let shared = live::first_shared(&readers, n, g);
+    if shared != g {
+        return Opened::Refused(9, shared as u32);
+    }
+    if area.len() < needed {
+        return Opened::Refused(13, 0);
+    }
+    copy_words(area, words, needed);
+    words::work_all(area);
+    Opened::Done(live::live_gates(&readers, n, g))
+}
+
+// Opens an image in the area: pattern 0. It answers the number of live gates.
+pub fn open(area: &mut [u32], image: &[u8]) -> Opened
+    ensures { λ r. ⌜ r ≡ opened (openJudgement (now (image .entry)) (length (now (area .entry)))) (openLive (now (image .entry))) ⌝ }
+    ensures { λ _. ⌜ now (area .exit) ≡ leftBy (openJudgement (now (image .entry)) (length (now (area .entry)))) (openWords (now (image .entry)) (now (area .entry))) (now (area .entry)) ⌝ }
+{
+    let mut words = [0u32; 8264];
+    let loaded = image::load(image, &mut words);
+    match loaded {
+        Loaded::Refused(number, place) => Opened::Refused(number, place),
+        Loaded::Done => open_loaded(area, &words),
     }
 }
 
