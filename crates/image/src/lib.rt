@@ -1,6 +1,6 @@
 // Reading a netlist image: refusals 1 to 8 of document 01, and the words of a work area whose figures are not worked out.
 ghost use mathlib.Core.Path.{_≡_};
-ghost use Prim.Native.Nat.{ℕ, _+_, _*_, _<_, _≤_};
+ghost use Prim.Native.Nat.{_+_, _*_, _<_, _≤_};
 ghost use mathlib.Core.Bool.{_&&_};
 ghost use mathlib.Core.List.{_++_};
 ghost use lib.ListN.{length, drop};
@@ -9,7 +9,7 @@ ghost use lib.Seq.{sets};
 ghost use Rattle.image.specs.Judgement.{fine, loaded, joined, lowest};
 ghost use Rattle.image.specs.Image.{u16At, u32At, imageInputs, imageGates, imageOutputs, middle, recordPins, recordField};
 ghost use Rattle.image.specs.Refusals.{trailerRefusal, TrailerRight, gateRefusal, outputRefusal, middleRefusal, imageRefusal};
-ghost use Rattle.image.specs.Loading.{headWords, gateWords, outputWord, middleWords, imageWords};
+ghost use Rattle.image.specs.Loading.{gateWords, outputWord, middleWords, imageWords};
 ghost use Rattle.image.specs.Record.{gateRecord};
 use chance::FlipUnits;
 
