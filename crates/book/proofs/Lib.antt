@@ -1,0 +1,5 @@
+pub mod Agree
+pub mod Judged
+pub mod Shown
+pub mod Flip
+pub mod Average
