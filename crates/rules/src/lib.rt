@@ -140,8 +140,8 @@ fn gates_sound(area: &[u32]) -> bool
     true
 }
 
-// Rule 14, the counts.
-fn counts_in_range(inputs: u32, gates: u32, outputs: u32) -> bool
+// Rules 3 and 14, the counts.
+pub fn counts_in_range(inputs: u32, gates: u32, outputs: u32) -> bool
     ensures { λ r. ⌜ r ≡ countsInRange inputs gates outputs ⌝ }
 {
     if inputs > 12 {
