@@ -33,7 +33,7 @@ use Rattle.calls.specs.Calls.{reliabilityAt, averageOf}
 use Rattle.book.specs.Book.{Book}
 use Rattle.book.specs.Statement.{AverageWithin}
 use Rattle.book.proofs.Agree.{Agree, chance-scale-positive, same-input-count, well-formed}
-use Rattle.book.proofs.Judged.{demand-fine, otherwise-fine}
+use Rattle.image.proofs.Judged.{demand-fine, otherwise-fine}
 
 -- weights that are not all zero have a sum above 0
 zero-terms : (k : ℕ) (F : ℕ → ℕ) → sumBelow k F ≡ 0 → (j : ℕ) → j < k → F j ≡ 0

@@ -7,8 +7,8 @@ use Rattle.chance.specs.Flip.{flipChance}
 use Rattle.netlist.specs.Netlist.{Gate, Netlist, gateAt}
 use Rattle.words.specs.Work.{invertBit}
 use Rattle.image.specs.Judgement.{Judgement, fine, refusal, otherwise, joined}
-use Rattle.image.specs.Image.{imageInputs, imageGates, imageOutputs, middle, recordCount, recordKind, recordTable, recordPins, recordField}
-use Rattle.image.specs.Loading.{outputWord}
+use Rattle.image.specs.Image.{imageInputs, imageGates, imageOutputs, middle, recordCount, recordKind, recordTable, recordPins}
+use Rattle.image.specs.Loading.{recordChance, outputWord}
 use Rattle.calls.specs.Judged.{named, flipJudgement, weightsJudgement, openJudgement}
 use Rattle.calls.specs.Calls.{Call, open-image, toggle-input, set-flip, read-netlist, read-gate, take-average}
 
@@ -25,7 +25,7 @@ recordGate m j =
       pins = take (recordCount m j) (recordPins m j);
       table = recordTable m j;
       kind = recordKind m j;
-      chance = flipChance (recordKind m j) (recordField m j);
+      chance = recordChance m j;
     }
 
 -- the k gates from j on

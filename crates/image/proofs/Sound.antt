@@ -184,14 +184,26 @@ chance-at bs j l = listed-at (recordChance (middle bs)) (imageGates bs) j l
 pub chances-fit : (bs : List ℕ) → imageRefusal bs ≡ fine → (j : ℕ) → j < imageGates bs → getD (imageChances bs) j 0 ≤ chanceScale
 chances-fit bs e j l = rw (chance-at bs j l) (chance-fits (middle bs) (imageInputs bs) j (loaded-gate bs e j l))
 
--- and each flip word is its chance in units
-pub flips-at : (bs rest : List ℕ) (j : ℕ) → j < imageGates bs → flip (imageWords bs ++ rest) j ≡ toUnits unitsInOne chanceScale (getD (imageChances bs) j 0)
-unfolding imageWords area behind recordUnits
-flips-at bs rest j l =
+-- where a gate's words stand, and the outputs
+pub gate-stands : (bs rest : List ℕ) (j : ℕ) → j < imageGates bs
+    → (tail : List ℕ) × (drop (8 + 8 * j) (imageWords bs ++ rest) ≡ gateWords (middle bs) j ++ tail)
+unfolding imageWords area behind
+gate-stands bs rest j l =
     let m = middle bs in
     let n = imageInputs bs in
     let g = imageGates bs in
     let k = imageOutputs bs in
     let d = drop-joined (gateWords m) 8 (λ i. refl) g j l (joined (outputWord m g) k ++ rest) in
-    word-at (middleWords m n g k ++ rest) m (d .0) n j (after-head m rest n g k (8 * j) ∙ d .1) (8 + 8 * j + 6) 6 refl
+    (d .0, after-head m rest n g k (8 * j) ∙ d .1)
+
+pub outputs-stand : (bs rest : List ℕ) → outputWords (imageWords bs ++ rest) ≡ joined (outputWord (middle bs) (imageGates bs)) (imageOutputs bs)
+unfolding imageWords area
+outputs-stand bs rest = outputs-at (middle bs) rest (imageInputs bs) (imageGates bs) (imageOutputs bs)
+
+-- each flip word is its chance in units
+pub flips-at : (bs rest : List ℕ) (j : ℕ) → j < imageGates bs → flip (imageWords bs ++ rest) j ≡ toUnits unitsInOne chanceScale (getD (imageChances bs) j 0)
+unfolding recordUnits
+flips-at bs rest j l =
+    let d = gate-stands bs rest j l in
+    word-at (imageWords bs ++ rest) (middle bs) (d .0) (imageInputs bs) j (d .1) (8 + 8 * j + 6) 6 refl
     ∙ ap (toUnits unitsInOne chanceScale) (sym (chance-at bs j l))
