@@ -1,9 +1,9 @@
 -- The average that a call answers is the netlist's, so it is within the bound of the average. Assumes nothing.
-use Prim.Native.Nat.{ℕ, zero, suc, _+_, _*_, _^_, _≤_, _<_}
-use mathlib.Core.Bool.{Bool, true, false, not}
+use Prim.Native.Nat.{ℕ, zero, suc, _+_, _*_, _^_, _<_}
+use mathlib.Core.Bool.{true, false}
 use mathlib.Core.List.{List}
 use mathlib.Core.Logic.{⊎-elim, by-cases}
-use mathlib.Core.Path.{_≡_, refl, sym, ap, ap₂, subst, _∙_}
+use mathlib.Core.Path.{_≡_, sym, ap, ap₂, subst, _∙_}
 use native.Mathlib.Nat.{eq-or-lt-of-le, le-of-suc-le-suc, eq-zero-or-pos}
 use native.Mathlib.Decide.{decLt}
 use native.Mathlib.Omega.{arith}
@@ -18,16 +18,16 @@ use Rattle.netlist.specs.Figures.{reliability}
 use Rattle.netlist.specs.Average.{sumBelow, totalWeight, averageUnits}
 use Rattle.netlist.proofs.Live.{sum-same}
 use Rattle.bound.proofs.Average.{average-bound}
-use Rattle.words.specs.Words.{inputs, gates, pattern, flip, reliabilityWord}
+use Rattle.words.specs.Words.{inputs, gates, pattern, flip}
 use Rattle.words.specs.Rules.{allZero}
 use Rattle.words.specs.Work.{workAll}
-use Rattle.words.proofs.Frame.{SameFrame, same-gates, same-trans, same-store-pattern, same-work-all, work-all-other}
+use Rattle.words.proofs.Frame.{same-gates, same-trans, same-store-pattern, same-work-all, work-all-other}
 use Rattle.words.proofs.Sound.{sound-store-pattern, sound-work-all}
 use Rattle.rules.proofs.Facts.{zero-passes}
 use Rattle.fresh.proofs.WorkAll.{work-all-fresh}
 use Rattle.fresh.proofs.Bridge.{reliability-holds}
 use Rattle.fresh.proofs.Calls.{frame-net}
-use Rattle.image.specs.Judgement.{fine, demand, otherwise, lowest}
+use Rattle.image.specs.Judgement.{fine, demand, lowest}
 use Rattle.calls.specs.Judged.{weightsJudgement}
 use Rattle.calls.specs.Calls.{reliabilityAt, averageOf}
 use Rattle.book.specs.Book.{Book}

@@ -1,12 +1,11 @@
 -- What must be shown of a call, for each of the six. Assumes nothing.
-use Prim.Native.Nat.{ℕ, _+_, _*_, _≤_, _<_}
-use mathlib.Core.Bool.{Bool, true}
+use Prim.Native.Nat.{ℕ, _≤_, _<_}
+use mathlib.Core.Bool.{true}
 use mathlib.Core.List.{List}
 use mathlib.Core.Logic.{by-cases}
 use mathlib.Core.Path.{_≡_, refl, sym, ap, subst, _∙_}
 use native.Mathlib.Decide.{ℕ-discrete}
 use native.Mathlib.Omega.{arith}
-use borrow.Author.Tests.{ltb-true}
 use lib.Dec.{ltb}
 use lib.ListN.{length, getD, set, length-set}
 use lib.Seq.{getD-set-same, getD-set-other}
@@ -23,21 +22,17 @@ use Rattle.live.specs.Net.{netOf}
 use Rattle.live.proofs.Net.{same-single-readers}
 use Rattle.fresh.proofs.Calls.{toggle-net, toggle-pattern, toggle-fresh, toggle-converted, set-net, set-pattern, set-fresh, set-converted}
 use Rattle.fresh.proofs.Unique.{fresh-fixed}
-use Rattle.image.specs.Judgement.{fine, otherwise}
+use Rattle.image.specs.Judgement.{otherwise}
 use Rattle.image.proofs.Judged.{demand-fine, otherwise-fine}
 use Rattle.calls.specs.Judged.{named, flipJudgement, weightsJudgement, toggleJudgement, setJudgement, gateJudgement, averageJudgement}
 use Rattle.calls.specs.Calls.{open-image, toggle-input, set-flip, read-netlist, read-gate, take-average, flipUnits}
 use Rattle.book.specs.Book.{Book, withFlip, entered}
 use Rattle.book.proofs.Agree.{Agree, same-input-count, same-gate-count}
-use Rattle.book.proofs.Judged.{area-fine, area-passes, never-fine, never-demand, never-otherwise, never-open, never-weights}
+use Rattle.book.proofs.Judged.{area-fine, area-passes, named-below, never-fine, never-demand, never-otherwise, never-open, never-weights}
 use Rattle.book.proofs.Shown.{Shown}
 use Rattle.book.proofs.Flip.{flip-net}
 use Rattle.book.proofs.Average.{average-within}
 use Rattle.book.proofs.Open.{opened}
-
--- a number that is named exists where it is not refused
-named-below : (x count : ℕ) → named x count ≡ fine → x < count
-named-below x count e = ltb-true x count (demand-fine (ltb x count) 10 x e)
 
 pub shown-open : (bs : List ℕ) → Shown (open-image bs)
 shown-open bs =

@@ -1,24 +1,25 @@
 -- Judgements: where the words agree with the book, 13 and 14 do not apply to the area; and no call is ever judged to get 14 by the book. Assumes nothing.
-use Prim.Native.Nat.{ℕ, zero, suc, _+_, _^_}
+use Prim.Native.Nat.{ℕ, zero, suc, _+_, _^_, _<_}
 use mathlib.Core.Bool.{Bool, true, false, not}
 use mathlib.Core.List.{List, []}
 use mathlib.Core.Logic.{_≢_}
-use mathlib.Core.Path.{_≡_, refl, sym, ap, _∙_}
+use mathlib.Core.Path.{_≡_, ap}
 use native.Mathlib.Omega.{arith}
+use borrow.Author.Tests.{ltb-true}
 use lib.ListN.{length, getD}
 use lib.Dec.{eqb, leb, ltb}
 use Rattle.chance.specs.Flip.{flipAccepted}
 use Rattle.netlist.specs.Live.{firstShared}
 use Rattle.words.specs.Words.{gates, needed}
-use Rattle.words.specs.Rules.{Sound, areaRefusal, allZero, countsInRange, gateShape, usedBelow}
+use Rattle.words.specs.Rules.{Sound, allZero, countsInRange, gateShape, usedBelow}
 use Rattle.live.specs.Net.{netOf}
 use Rattle.rules.proofs.Sound.{sound-passes}
 use Rattle.image.specs.Judgement.{Judgement, fine, refusal, demand, otherwise, lowest}
 use Rattle.image.specs.Image.{imageInputs, imageGates, imageOutputs, imageFormat, middle, recordCount, recordKind, recordTable, recordPins, recordField, outputAt}
 use Rattle.image.specs.Refusals.{lengthRight, backRight, trailerRefusal, gateRefusal, outputRefusal, middleRefusal, imageRefusal}
 use Rattle.image.specs.Loading.{imageWords}
-use Rattle.image.proofs.Judged.{otherwise-second}
-use Rattle.calls.specs.Judged.{areaJudgement, weightsJudgement, sharedJudgement, openJudgement}
+use Rattle.image.proofs.Judged.{demand-fine, otherwise-second}
+use Rattle.calls.specs.Judged.{areaJudgement, named, weightsJudgement, sharedJudgement, openJudgement}
 
 -- a judgement that is no refusal with that number
 abbrev pub Never : ℕ → Judgement → Type 0
@@ -35,6 +36,10 @@ area-fine ws sound = ap (λ (r : ℕ). demand (eqb r 0) r 0) (sound-passes ws so
 
 pub area-passes : (ws : List ℕ) (v : Judgement) → Sound ws → otherwise (areaJudgement ws) v ≡ v
 area-passes ws v sound = otherwise-second (areaJudgement ws) v (area-fine ws sound)
+
+-- a number that is named exists where it is not refused
+pub named-below : (x count : ℕ) → named x count ≡ fine → x < count
+named-below x count e = ltb-true x count (demand-fine (ltb x count) 10 x e)
 
 -- ---- never: each rule has its own number
 

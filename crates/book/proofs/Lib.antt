@@ -6,3 +6,4 @@ pub mod Average
 pub mod Open
 pub mod Calls
 pub mod List
+pub mod Untouched

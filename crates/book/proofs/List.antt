@@ -1,14 +1,12 @@
 -- Demand 3: whatever must be shown of one call is shown of the whole list. The induction names no call. Assumes nothing.
 use Prim.Native.Nat.{ℕ}
 use mathlib.Core.List.{List, [], _∷_}
-use mathlib.Core.Path.{_≡_, refl, sym, ap, subst, _∙_}
+use mathlib.Core.Path.{_≡_, refl, sym, subst, _∙_}
 use lib.ListN.{length}
-use Rattle.words.specs.Words.{reliabilityWord}
 use Rattle.image.specs.Judgement.{Judgement, fine, refusal}
-use Rattle.calls.specs.Judged.{openJudgement}
-use Rattle.calls.specs.Calls.{Call, open-image, toggle-input, set-flip, read-netlist, read-gate, take-average, openWords, judgement, work, left, leftBy}
+use Rattle.calls.specs.Calls.{Call, open-image, toggle-input, set-flip, read-netlist, read-gate, take-average, openWords, work, left, leftBy}
 use Rattle.book.specs.Book.{Book, imageBook, bookJudgement, entered, unlessRefused, bookStep}
-use Rattle.book.specs.Statement.{WithinBound, CallKept, Kept, Demand3}
+use Rattle.book.specs.Statement.{CallKept, Kept, Demand3}
 use Rattle.book.proofs.Agree.{Agree, within-bound}
 use Rattle.book.proofs.Shown.{Shown}
 use Rattle.book.proofs.Open.{opened}

@@ -4,64 +4,73 @@ use mathlib.Core.List.{List, [], _∷_, _++_, append-nil}
 use mathlib.Core.Path.{_≡_, refl, sym, ap, ap₂, subst, _∙_}
 use native.Mathlib.Omega.{arith}
 use borrow.Author.Tests.{eqb-true}
-use lib.ListN.{length, getD, take, drop}
-use Rattle.netlist.specs.Netlist.{Gate, Netlist}
-use Rattle.netlist.specs.Live.{firstShared, SingleReaders}
+use lib.ListN.{length, drop}
+use Rattle.netlist.specs.Live.{liveGates, firstShared, SingleReaders}
 use Rattle.netlist.proofs.Shared.{none-single}
-use Rattle.words.specs.Words.{inputs, gates, pattern, pinCount, table, pins, needed}
+use Rattle.words.specs.Words.{inputs, gates, outputs, pattern, pinCount, table, pins, needed}
 use Rattle.words.specs.Work.{workAll}
 use Rattle.words.proofs.Frame.{same-gates, same-work-all, work-all-other}
 use Rattle.words.proofs.Sound.{sound-work-all}
 use Rattle.live.specs.Net.{gateOf, gatesFrom, netOf}
-use Rattle.live.proofs.Net.{gate-count, same-single-readers}
-use Rattle.image.specs.Judgement.{fine, demand}
+use Rattle.live.proofs.Net.{gate-count, same-live-gates, same-single-readers}
+use Rattle.image.specs.Judgement.{fine}
 use Rattle.image.specs.Image.{imageInputs, imageGates, imageOutputs, middle, recordCount, recordTable, recordPins}
 use Rattle.image.specs.Refusals.{imageRefusal}
 use Rattle.image.specs.Loading.{middleWords, imageWords, imageKinds, imageChances}
 use Rattle.image.proofs.Judged.{demand-fine, otherwise-fine}
 use Rattle.image.proofs.Sound.{word-at, pins-at, gate-stands, outputs-stand, loaded-sound, length-kinds, length-chances, kind-at, chance-at, chances-fit, flips-at}
 use Rattle.calls.specs.Judged.{sharedJudgement, openJudgement}
-use Rattle.calls.specs.Calls.{openWords}
+use Rattle.calls.specs.Calls.{openWords, openLive}
 use Rattle.fresh.proofs.WorkAll.{work-all-fresh}
 use Rattle.fresh.proofs.Calls.{frame-net}
 use Rattle.book.specs.Book.{recordGate, recordGates, imageNet, imageBook}
 use Rattle.book.proofs.Agree.{Agree}
 
 module _ (bs rest : List ℕ) where
-  words : List ℕ
-  words = imageWords bs ++ rest
-
-  gate-held : (j : ℕ) → j < imageGates bs → gateOf words (imageKinds bs) (imageChances bs) j ≡ recordGate (middle bs) j
-  unfolding words
+  gate-held : (j : ℕ) → j < imageGates bs → gateOf (imageWords bs ++ rest) (imageKinds bs) (imageChances bs) j ≡ recordGate (middle bs) j
   gate-held j l =
+      let ws = imageWords bs ++ rest in
       let m = middle bs in
       let d = gate-stands bs rest j l in
-      let at : (p i : ℕ) → p ≡ 8 + 8 * j + i → getD words p 0 ≡ _ = word-at words m (d .0) (imageInputs bs) j (d .1) in
-      let count : pinCount words j ≡ recordCount m j = at (8 + 8 * j) 0 (omega arith) in
-      let bits : table words j ≡ recordTable m j = at (8 + 8 * j + 1) 1 refl in
-      let held : pins words j ≡ recordPins m j = pins-at words m (d .0) (imageInputs bs) j (d .1) in
-      rw (count, bits, held, kind-at bs j l, chance-at bs j l)
+      let n = imageInputs bs in
+      let count : pinCount ws j ≡ recordCount m j = word-at ws m (d .0) n j (d .1) (8 + 8 * j) 0 (omega arith) in
+      let bits : table ws j ≡ recordTable m j = word-at ws m (d .0) n j (d .1) (8 + 8 * j + 1) 1 refl in
+      let four : pins ws j ≡ recordPins m j = pins-at ws m (d .0) n j (d .1) in
+      rw (count, bits, four, kind-at bs j l, chance-at bs j l)
 
-  gates-held : (j k : ℕ) → j + k ≤ imageGates bs → gatesFrom words (imageKinds bs) (imageChances bs) j k ≡ recordGates (middle bs) j k
+  gates-held : (j k : ℕ) → j + k ≤ imageGates bs → gatesFrom (imageWords bs ++ rest) (imageKinds bs) (imageChances bs) j k ≡ recordGates (middle bs) j k
   gates-held j zero l = refl
   gates-held j (suc k) l = ap₂ _∷_ (gate-held j (omega arith)) (gates-held (suc j) k (omega arith))
 
-  head-inputs : inputs words ≡ imageInputs bs
-  unfolding words imageWords middleWords
+  -- the counts and the pattern stand in the head
+  pub head-inputs : inputs (imageWords bs ++ rest) ≡ imageInputs bs
+  unfolding imageWords middleWords
   head-inputs = refl
 
-  head-gates : gates words ≡ imageGates bs
-  unfolding words imageWords middleWords
+  pub head-gates : gates (imageWords bs ++ rest) ≡ imageGates bs
+  unfolding imageWords middleWords
   head-gates = refl
 
-  head-pattern : pattern words ≡ 0
-  unfolding words imageWords middleWords
+  pub head-outputs : outputs (imageWords bs ++ rest) ≡ imageOutputs bs
+  unfolding imageWords middleWords
+  head-outputs = refl
+
+  pub head-pattern : pattern (imageWords bs ++ rest) ≡ 0
+  unfolding imageWords middleWords
   head-pattern = refl
 
   -- the words of an image hold its netlist, whatever follows them
   pub image-net : netOf (imageWords bs ++ rest) (imageKinds bs) (imageChances bs) ≡ imageNet bs
-  unfolding words imageNet
+  unfolding imageNet
   image-net = rw (outputs-stand bs rest, head-inputs, head-gates, gates-held 0 (imageGates bs) (omega arith))
+
+plain-net : (bs : List ℕ) → netOf (imageWords bs) (imageKinds bs) (imageChances bs) ≡ imageNet bs
+plain-net bs = subst (λ (ws : List ℕ). netOf ws (imageKinds bs) (imageChances bs) ≡ imageNet bs) (append-nil (imageWords bs)) (image-net bs [])
+
+-- the number that opening answers is L of the book
+pub open-live : (bs : List ℕ) → openLive bs ≡ liveGates (imageNet bs)
+unfolding openLive
+open-live bs = same-live-gates (imageWords bs) [] [] (imageKinds bs) (imageChances bs) ∙ ap liveGates (plain-net bs)
 
 -- refusal 9 does not apply to it
 single-readers : (bs : List ℕ) → sharedJudgement (imageWords bs) ≡ fine → SingleReaders (imageNet bs)
@@ -69,13 +78,11 @@ unfolding sharedJudgement
 single-readers bs e =
     let ws = imageWords bs in
     let none : firstShared (netOf ws [] []) ≡ gates ws = eqb-true _ _ (demand-fine _ 9 _ e) in
-    let held : netOf ws (imageKinds bs) (imageChances bs) ≡ imageNet bs
-    = subst (λ (vs : List ℕ). netOf vs (imageKinds bs) (imageChances bs) ≡ imageNet bs) (append-nil ws) (image-net bs []) in
-    subst SingleReaders held
+    subst SingleReaders (plain-net bs)
     (same-single-readers ws [] [] (imageKinds bs) (imageChances bs) (none-single (netOf ws [] []) (none ∙ sym (gate-count ws [] []))))
 
 pub opened : (bs ws : List ℕ) → openJudgement bs (length ws) ≡ fine → Agree (openWords bs ws) (imageBook bs)
-unfolding openJudgement openWords words
+unfolding openJudgement openWords
 opened bs ws e =
     let rest = drop (needed (imageGates bs) (imageOutputs bs)) ws in
     let before = imageWords bs ++ rest in

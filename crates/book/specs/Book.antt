@@ -56,14 +56,13 @@ bookJudgement b size (take-average weights) = weightsJudgement (b .net .inputs) 
 
 -- ---- what a call enters
 
--- gate g with a new kind and chance; all else stays
+-- a gate with another flip; and a netlist whose gate g has it
+abbrev pub reflipped : Gate → ℕ → ℕ → Gate
+reflipped gate kind chance = record { pins = gate .pins; table = gate .table; kind = kind; chance = chance }
+
 unfoldable pub withFlip : Netlist → ℕ → ℕ → ℕ → Netlist
 withFlip net g kind chance =
-    record {
-      inputs = net .inputs;
-      gates = set (net .gates) g (record { pins = gateAt net g .pins; table = gateAt net g .table; kind = kind; chance = chance });
-      outputs = net .outputs;
-    }
+    record { inputs = net .inputs; gates = set (net .gates) g (reflipped (gateAt net g) kind chance); outputs = net .outputs }
 
 abbrev pub entered : Book → Call → Book
 entered b (open-image bs) = imageBook bs

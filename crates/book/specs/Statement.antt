@@ -1,17 +1,18 @@
 -- Demand 3, one claim about the whole list: document 01, "The list and the book". proofs/List.antt proves it.
-use Prim.Native.Nat.{ℕ, _+_, _*_}
+use Prim.Native.Nat.{ℕ, _+_, _*_, _≤_}
 use mathlib.Core.List.{List, [], _∷_}
 use mathlib.Core.Logic.{_≢_}
 use mathlib.Core.Path.{_≡_}
-use lib.ListN.{length}
+use lib.ListN.{length, getD}
 use Rattle.rounding.specs.Rounding.{unitsInOne, Near}
 use Rattle.chance.specs.Number.{chanceScale}
 use Rattle.netlist.specs.Live.{liveGates}
 use Rattle.netlist.specs.Exact.{exactSum}
 use Rattle.netlist.specs.Average.{totalWeight, exactAverageSum}
 use Rattle.bound.specs.Statements.{denominator}
-use Rattle.words.specs.Words.{reliabilityWord}
+use Rattle.words.specs.Words.{gates, outputs, reliabilityWord, needed}
 use Rattle.image.specs.Judgement.{fine, refusal}
+use Rattle.image.specs.Image.{imageGates, imageOutputs}
 use Rattle.calls.specs.Judged.{openJudgement}
 use Rattle.calls.specs.Calls.{Call, open-image, toggle-input, set-flip, read-netlist, read-gate, take-average, openWords, averageOf, judgement, left}
 use Rattle.book.specs.Book.{Book, imageBook, bookJudgement, bookStep}
@@ -57,3 +58,21 @@ Kept ws b (call ∷ calls) =
 abbrev pub Demand3 : Type 0
 Demand3 =
     (ws bs : List ℕ) (calls : List Call) → openJudgement bs (length ws) ≡ fine → Kept (openWords bs ws) (imageBook bs) calls
+
+-- beside demand 3, of any area: the words that a call needs, by the image's counts at opening and by the area's elsewhere
+abbrev pub neededBy : List ℕ → Call → ℕ
+neededBy ws (open-image bs) = needed (imageGates bs) (imageOutputs bs)
+neededBy ws (toggle-input i) = needed (gates ws) (outputs ws)
+neededBy ws (set-flip g kind field) = needed (gates ws) (outputs ws)
+neededBy ws read-netlist = needed (gates ws) (outputs ws)
+neededBy ws (read-gate g) = needed (gates ws) (outputs ws)
+neededBy ws (take-average weights) = needed (gates ws) (outputs ws)
+
+-- vs has the length of ws, and its words from index k on
+pub record Untouched (k : ℕ) (ws vs : List ℕ) : Type 0 where
+  pub size : length vs ≡ length ws
+  pub past : (i : ℕ) → k ≤ i → getD vs i 0 ≡ getD ws i 0
+
+-- no call changes the area's length, or a word past those that it needs
+abbrev pub PastUntouched : Type 0
+PastUntouched = (ws : List ℕ) (call : Call) → Untouched (neededBy ws call) ws (left ws call)
