@@ -1,0 +1,81 @@
+-- The book of document 01, "The list and the book": what is current and exact after a list of calls. It is fed the area's length and the calls' arguments,
+-- and neither a word of the area nor an answer.
+use Prim.Native.Nat.{ℕ, zero, suc}
+use mathlib.Core.List.{List, [], _∷_}
+use lib.ListN.{length, take, set}
+use Rattle.chance.specs.Flip.{flipChance}
+use Rattle.netlist.specs.Netlist.{Gate, Netlist, gateAt}
+use Rattle.words.specs.Work.{invertBit}
+use Rattle.image.specs.Judgement.{Judgement, fine, refusal, otherwise, joined}
+use Rattle.image.specs.Image.{imageInputs, imageGates, imageOutputs, middle, recordCount, recordKind, recordTable, recordPins}
+use Rattle.image.specs.Loading.{recordChance, outputWord}
+use Rattle.calls.specs.Judged.{named, flipJudgement, weightsJudgement, openJudgement}
+use Rattle.calls.specs.Calls.{Call, open-image, toggle-input, set-flip, read-netlist, read-gate, take-average}
+
+-- a netlist, whose gates have their flip kind and their chance before conversion, and a pattern
+pub record Book : Type 0 where
+  pub net : Netlist
+  pub pattern : ℕ
+
+-- ---- what an image enters: its netlist, kinds and chances, and pattern 0
+
+abbrev pub recordGate : List ℕ → ℕ → Gate
+recordGate m j =
+    record {
+      pins = take (recordCount m j) (recordPins m j);
+      table = recordTable m j;
+      kind = recordKind m j;
+      chance = recordChance m j;
+    }
+
+-- the k gates from j on
+abbrev pub recordGates : List ℕ → ℕ → ℕ → List Gate
+recordGates m j zero = []
+recordGates m j (suc k) = recordGate m j ∷ recordGates m (suc j) k
+
+unfoldable pub imageNet : List ℕ → Netlist
+imageNet bs =
+    record {
+      inputs = imageInputs bs;
+      gates = recordGates (middle bs) 0 (imageGates bs);
+      outputs = joined (outputWord (middle bs) (imageGates bs)) (imageOutputs bs);
+    }
+
+abbrev pub imageBook : List ℕ → Book
+imageBook bs = record { net = imageNet bs; pattern = 0 }
+
+-- ---- which refusal a call gets: by the image and the area's length at opening, by the book elsewhere, where 13 and 14 have no place
+
+abbrev pub bookJudgement : Book → ℕ → Call → Judgement
+bookJudgement b size (open-image bs) = openJudgement bs size
+bookJudgement b size (toggle-input i) = named i (b .net .inputs)
+bookJudgement b size (set-flip g kind field) = otherwise (named g (length (b .net .gates))) (flipJudgement g kind field)
+bookJudgement b size read-netlist = fine
+bookJudgement b size (read-gate g) = named g (length (b .net .gates))
+bookJudgement b size (take-average weights) = weightsJudgement (b .net .inputs) weights
+
+-- ---- what a call enters
+
+-- a gate with another flip; and a netlist whose gate g has it
+abbrev pub reflipped : Gate → ℕ → ℕ → Gate
+reflipped gate kind chance = record { pins = gate .pins; table = gate .table; kind = kind; chance = chance }
+
+unfoldable pub withFlip : Netlist → ℕ → ℕ → ℕ → Netlist
+withFlip net g kind chance =
+    record { inputs = net .inputs; gates = set (net .gates) g (reflipped (gateAt net g) kind chance); outputs = net .outputs }
+
+abbrev pub entered : Book → Call → Book
+entered b (open-image bs) = imageBook bs
+entered b (toggle-input i) = record { net = b .net; pattern = invertBit (b .pattern) i }
+entered b (set-flip g kind field) = record { net = withFlip (b .net) g kind (flipChance kind field); pattern = b .pattern }
+entered b read-netlist = b
+entered b (read-gate g) = b
+entered b (take-average weights) = b
+
+-- a refused call enters nothing
+abbrev pub unlessRefused : Judgement → Book → Book → Book
+unlessRefused fine new old = new
+unlessRefused (refusal number place) new old = old
+
+abbrev pub bookStep : Book → ℕ → Call → Book
+bookStep b size call = unlessRefused (bookJudgement b size call) (entered b call) b

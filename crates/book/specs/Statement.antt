@@ -1,0 +1,78 @@
+-- Demand 3, one claim about the whole list: document 01, "The list and the book". proofs/List.antt proves it.
+use Prim.Native.Nat.{ℕ, _+_, _*_, _≤_}
+use mathlib.Core.List.{List, [], _∷_}
+use mathlib.Core.Logic.{_≢_}
+use mathlib.Core.Path.{_≡_}
+use lib.ListN.{length, getD}
+use Rattle.rounding.specs.Rounding.{unitsInOne, Near}
+use Rattle.chance.specs.Number.{chanceScale}
+use Rattle.netlist.specs.Live.{liveGates}
+use Rattle.netlist.specs.Exact.{exactSum}
+use Rattle.netlist.specs.Average.{totalWeight, exactAverageSum}
+use Rattle.bound.specs.Statements.{denominator}
+use Rattle.words.specs.Words.{gates, outputs, reliabilityWord, needed}
+use Rattle.image.specs.Judgement.{fine, refusal}
+use Rattle.image.specs.Image.{imageGates, imageOutputs}
+use Rattle.calls.specs.Judged.{openJudgement}
+use Rattle.calls.specs.Calls.{Call, open-image, toggle-input, set-flip, read-netlist, read-gate, take-average, openWords, averageOf, judgement, left}
+use Rattle.book.specs.Book.{Book, imageBook, bookJudgement, bookStep}
+
+-- so many units differ from U × the exact sum for the book's pattern by at most 1.5 × L: twice that, times the exact sum's denominator
+abbrev pub WithinBound : ℕ → Book → Type 0
+WithinBound units b =
+    Near
+    (3 * liveGates (b .net) * denominator chanceScale (b .net))
+    (2 * (units * denominator chanceScale (b .net)))
+    (2 * (unitsInOne * exactSum chanceScale (b .net) (b .pattern)))
+
+-- and from U × the exact average by at most 1.5 × L + 0.5: twice that, times the sum of weights and the exact sum's denominator
+abbrev pub AverageWithin : ℕ → List ℕ → Book → Type 0
+AverageWithin units weights b =
+    Near
+    ((3 * liveGates (b .net) + 1) * totalWeight (b .net) weights * denominator chanceScale (b .net))
+    (2 * (units * totalWeight (b .net) weights * denominator chanceScale (b .net)))
+    (2 * (unitsInOne * exactAverageSum chanceScale (b .net) weights))
+
+-- what is promised of the answer of a call that is not refused, by the book at that call
+abbrev pub AnswerKept : List ℕ → Book → Call → Type 0
+AnswerKept ws b (open-image bs) = Unit {0}
+AnswerKept ws b (toggle-input i) = Unit {0}
+AnswerKept ws b (set-flip g kind field) = Unit {0}
+AnswerKept ws b read-netlist = Unit {0}
+AnswerKept ws b (read-gate g) = Unit {0}
+AnswerKept ws b (take-average weights) = AverageWithin (averageOf ws weights) weights b
+
+-- a call is refused exactly where the book says, with that number and place, and never with 14
+pub record CallKept (ws : List ℕ) (b : Book) (call : Call) : Type 0 where
+  pub judged : judgement ws call ≡ bookJudgement b (length ws) call
+  pub never-14 : (place : ℕ) → judgement ws call ≢ refusal 14 place
+  pub answer : judgement ws call ≡ fine → AnswerKept ws b call
+
+-- on an area whose words are ws and whose book is b: word 4 is within the bound now and after each of the calls, and each call is as promised
+abbrev pub Kept : List ℕ → Book → List Call → Type 0
+Kept ws b [] = WithinBound (reliabilityWord ws) b
+Kept ws b (call ∷ calls) =
+    WithinBound (reliabilityWord ws) b × CallKept ws b call × Kept (left ws call) (bookStep b (length ws) call) calls
+
+-- an accepted opening into an area that held any words, then any calls, further openings and refused calls among them
+abbrev pub Demand3 : Type 0
+Demand3 =
+    (ws bs : List ℕ) (calls : List Call) → openJudgement bs (length ws) ≡ fine → Kept (openWords bs ws) (imageBook bs) calls
+
+-- beside demand 3, of any area: the words that a call needs, by the image's counts at opening and by the area's elsewhere
+abbrev pub neededBy : List ℕ → Call → ℕ
+neededBy ws (open-image bs) = needed (imageGates bs) (imageOutputs bs)
+neededBy ws (toggle-input i) = needed (gates ws) (outputs ws)
+neededBy ws (set-flip g kind field) = needed (gates ws) (outputs ws)
+neededBy ws read-netlist = needed (gates ws) (outputs ws)
+neededBy ws (read-gate g) = needed (gates ws) (outputs ws)
+neededBy ws (take-average weights) = needed (gates ws) (outputs ws)
+
+-- vs has the length of ws, and its words from index k on
+pub record Untouched (k : ℕ) (ws vs : List ℕ) : Type 0 where
+  pub size : length vs ≡ length ws
+  pub past : (i : ℕ) → k ≤ i → getD vs i 0 ≡ getD ws i 0
+
+-- no call changes the area's length, or a word past those that it needs
+abbrev pub PastUntouched : Type 0
+PastUntouched = (ws : List ℕ) (call : Call) → Untouched (neededBy ws call) ws (left ws call)
