@@ -1,7 +1,7 @@
-// The one rounding step of the figures: the mean of two figures.
+// Rounding: a division to the nearest whole number, and the one rounding step of the figures, the mean of two figures.
 ghost use mathlib.Core.Path.{_≡_};
-ghost use Prim.Native.Nat.{_≤_};
-ghost use Rattle.rounding.specs.Rounding.{unitsInOne, blend};
+ghost use Prim.Native.Nat.{_+_, _*_, _≤_, _<_};
+ghost use Rattle.rounding.specs.Rounding.{unitsInOne, roundDiv, blend};
 
 // U of document 01: the number of units in 1.
 pub const UNITS_IN_ONE: u64 = 1_073_741_824;
@@ -14,4 +14,13 @@ pub fn blended(right: u64, wrong: u64, failure: u64) -> u64
     ensures { λ r. ⌜ r ≡ blend unitsInOne right wrong failure ⌝ }
 {
     (right * (UNITS_IN_ONE - failure) + wrong * failure + UNITS_IN_ONE / 2) / UNITS_IN_ONE
+}
+
+// `sum` divided by `count`, to the nearest whole number.
+pub fn rounded(sum: u64, count: u64) -> u64
+    requires { ⌜ 0 < count ⌝ }
+    requires { ⌜ 2 * sum + 2 * count < 18_446_744_073_709_551_616 ⌝ }
+    ensures { λ r. ⌜ r ≡ roundDiv sum count ⌝ }
+{
+    (2 * sum + count) / (2 * count)
 }

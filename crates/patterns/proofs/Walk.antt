@@ -1,0 +1,179 @@
+-- The laws of the walk: bounds of sums, and what storing a pattern and working out the gates keeps. Assumes nothing.
+use Prim.Native.Nat.{ℕ, zero, suc, _+_, _*_, _^_, _≤_, _<_}
+use mathlib.Core.Bool.{Bool, true, false, true≢false}
+use mathlib.Core.List.{List}
+use mathlib.Core.Logic.{⊎-elim, by-cases}
+use mathlib.Core.Path.{_≡_, refl, sym, ap, ap₂, subst, _∙_}
+use native.Mathlib.Nat.{eq-or-lt-of-le, le-of-suc-le-suc, mul-le-mul-right, mul-comm, lt-of-lt-of-le}
+use native.Mathlib.Numerals.{add-one}
+use native.Mathlib.Decide.{decLt}
+use native.Mathlib.Omega.{arith}
+use lib.Dec.{eqb}
+use lib.ListN.{length, getD, set, length-set}
+use lib.Pow.{pow-mono}
+use lib.Seq.{getD-set-same, getD-set-other, set-getD}
+use borrow.Author.Tests.{eq-eqb}
+use Rattle.rounding.specs.Rounding.{unitsInOne, roundDiv}
+use Rattle.rounding.proofs.Laws.{at-most}
+use Rattle.netlist.specs.Average.{sumBelow}
+use Rattle.words.specs.Words.{inputs, gates, pattern, reliabilityWord, flip}
+use Rattle.words.specs.Rules.{allZero, Sound}
+use Rattle.words.specs.Work.{workGates, reliabilityNow, workAll}
+use Rattle.words.proofs.Frame.{SameFrame, same-inputs, same-gates, same-sym, same-trans, same-store-pattern, same-work-gates, work-gates-other, work-gates-length, work-reliability-same}
+use Rattle.words.proofs.Sound.{sound-store-pattern, sound-work-gates, sound-work-all}
+use Rattle.rules.proofs.Every.{zero-part, holds-every}
+use Rattle.fresh.proofs.Unique.{work-all-same}
+use Rattle.calls.specs.Calls.{reliabilityAt, averageOf}
+use Rattle.patterns.specs.Weights.{largestWeight}
+use Rattle.patterns.specs.Walk.{Fitting, weightedTo, SameWork}
+
+-- ---- sums
+
+-- one turn of a loop that adds up
+pub sum-more : (F : ℕ → ℕ) (k s x : ℕ) → s ≡ sumBelow k F → x ≡ F k → s + x ≡ sumBelow (k + 1) F
+sum-more F k s x e f = rw add-one (ap₂ _+_ e f)
+
+pub term-below : (F : ℕ → ℕ) (k q : ℕ) → q < k → F q ≤ sumBelow k F
+term-below F zero q l = absurd (omega arith)
+term-below F (suc k) q l =
+    ⊎-elim
+    (λ e. omega (arith, ap F e))
+    (λ less. omega (arith, term-below F k q less))
+    (eq-or-lt-of-le (le-of-suc-le-suc l))
+
+pub sum-at-most : (F : ℕ → ℕ) (b k : ℕ) → ((q : ℕ) → q < k → F q ≤ b) → sumBelow k F ≤ k * b
+sum-at-most F b zero h = omega arith
+sum-at-most F b (suc k) h = omega (arith, sum-at-most F b k (λ q l. h q (omega arith)), h k (omega arith))
+
+-- terms that are at most u times as large
+pub sum-scaled : (F G : ℕ → ℕ) (u k : ℕ) → ((q : ℕ) → q < k → F q ≤ u * G q) → sumBelow k F ≤ u * sumBelow k G
+sum-scaled F G u zero h = omega arith
+sum-scaled F G u (suc k) h = omega (arith, sum-scaled F G u k (λ q l. h q (omega arith)), h k (omega arith))
+
+-- weights that are not all zero have a sum
+pub some-weight : (weights : List ℕ) → allZero weights ≡ false → 0 < sumBelow (length weights) (λ q. getD weights q 0)
+some-weight weights e =
+    let W : ℕ → ℕ = λ q. getD weights q 0 in
+    by-cases (decLt 0 (sumBelow (length weights) W)) (λ l. l)
+    (λ no.
+    absurd
+    (true≢false
+    (sym
+    (zero-part weights 0 (length weights) (omega arith)
+    ∙ holds-every (λ q. eqb (getD weights q 0) 0) 0 (length weights)
+    (λ q l. eq-eqb (getD weights (0 + q) 0) 0 (omega (arith, term-below W (length weights) (0 + q) (omega arith)))))
+    ∙ e)))
+
+-- ---- areas
+
+-- an area with the netlist and the flips of another works out to the same under each pattern
+pub same-work : (ws vs : List ℕ) → Sound ws → Sound vs → SameFrame ws vs → ((j : ℕ) → j < gates ws → flip vs j ≡ flip ws j) → SameWork ws vs
+same-work ws vs sound-ws sound-vs same flips =
+    let n = same-inputs ws vs same in
+    let kept : (us : List ℕ) (q j : ℕ) → flip (set us 3 q) j ≡ flip us j = λ us q j. getD-set-other us 3 (8 + 8 * j + 6) q 0 (λ e. omega arith) in
+    record {
+      sound = sound-vs;
+      size = same .size;
+      input-count = n;
+      work =
+          λ q l.
+          work-all-same (set ws 3 q) (set vs 3 q) (sound-store-pattern ws q sound-ws l) (sound-store-pattern vs q sound-vs (rw n l))
+          (same-trans (set ws 3 q) ws (set vs 3 q) (same-sym ws (set ws 3 q) (same-store-pattern ws q))
+          (same-trans ws vs (set vs 3 q) same (same-store-pattern vs q)))
+          (getD-set-same vs 3 q 0 (omega (arith, sound-vs .long)) ∙ sym (getD-set-same ws 3 q 0 (omega (arith, sound-ws .long))))
+          (λ j inside. kept vs q j ∙ flips j (omega (arith, same-gates ws (set ws 3 q) (same-store-pattern ws q))) ∙ sym (kept ws q j));
+    }
+
+pub same-work-refl : (ws : List ℕ) → Sound ws → SameWork ws ws
+same-work-refl ws sound = record { sound = sound; size = refl; input-count = refl; work = λ q l. refl }
+
+pub same-work-trans : (ws vs us : List ℕ) → SameWork ws vs → SameWork vs us → SameWork ws us
+same-work-trans ws vs us a b =
+    record {
+      sound = b .sound;
+      size = b .size ∙ a .size;
+      input-count = b .input-count ∙ a .input-count;
+      work = λ q l. b .work q (rw (a .input-count) l) ∙ a .work q l;
+    }
+
+-- so has it the same reliabilities
+pub same-reliability : (ws vs : List ℕ) (q : ℕ) → SameWork ws vs → q < 2 ^ inputs ws → reliabilityAt vs q ≡ reliabilityAt ws q
+unfolding reliabilityAt
+same-reliability ws vs q same l = ap reliabilityWord (same .work q l)
+
+pub reliability-at-fits : (ws : List ℕ) (q : ℕ) → Sound ws → q < 2 ^ inputs ws → reliabilityAt ws q ≤ unitsInOne
+unfolding reliabilityAt
+reliability-at-fits ws q sound l = sound-work-all (set ws 3 q) (sound-store-pattern ws q sound l) .reliability-fits
+
+-- the area's own pattern put back
+pub put-back : (ws vs : List ℕ) (q : ℕ) → Sound ws → SameWork ws vs → q ≡ pattern ws → workAll (set vs 3 q) ≡ workAll ws
+put-back ws vs q sound same e =
+    ap (λ (p : ℕ). workAll (set vs 3 p)) e ∙ same .work (pattern ws) (sound .pattern-fits) ∙ ap workAll (set-getD ws 3 0)
+
+module _ (ws : List ℕ) (q : ℕ) (sound : Sound ws) (l : q < 2 ^ inputs ws) where
+  -- every gate worked out for pattern q
+  abbrev pub workedAt : List ℕ
+  workedAt = workGates (set ws 3 q) 0 (gates (set ws 3 q))
+
+  sound-stored : Sound (set ws 3 q)
+  sound-stored = sound-store-pattern ws q sound l
+
+  pub sound-at : Sound workedAt
+  sound-at = sound-work-gates (set ws 3 q) 0 (gates (set ws 3 q)) sound-stored (omega arith)
+
+  pub same-at : SameWork ws workedAt
+  same-at =
+      same-work ws workedAt sound sound-at
+      (same-trans ws (set ws 3 q) workedAt (same-store-pattern ws q) (same-work-gates (set ws 3 q) 0 (gates (set ws 3 q)) (omega arith)))
+      (λ j inside.
+      work-gates-other (set ws 3 q) 0 (gates (set ws 3 q)) (8 + 8 * j + 6) (λ k from to e. omega arith)
+      ∙ getD-set-other ws 3 (8 + 8 * j + 6) q 0 (λ e. omega arith))
+
+  pub reliability-is : reliabilityNow workedAt ≡ reliabilityAt ws q
+  unfolding reliabilityAt workAll
+  reliability-is = sym (work-reliability-same workedAt (omega (arith, sound-at .long)))
+
+-- ---- the weighted sum
+
+module _ (ws weights : List ℕ) (sound : Sound ws) (fit : Fitting (inputs ws) weights) where
+  pub length-small : length weights ≤ 4096
+  length-small = omega (arith, fit .one-each, pow-mono {i = inputs ws} {j = 12} (sound .inputs-fit))
+
+  -- one turn
+  pub weighted-more : (vs : List ℕ) (k s x : ℕ) → k < length weights → SameWork ws vs → s ≡ weightedTo ws weights k
+      → x ≡ getD weights k 0 * reliabilityAt vs k → s + x ≡ weightedTo ws weights (k + 1)
+  unfolding weightedTo
+  weighted-more vs k s x l same e f =
+      sum-more (λ q. getD weights q 0 * reliabilityAt ws q) k s x e
+      (f ∙ ap (λ (r : ℕ). getD weights k 0 * r) (same-reliability ws vs k same (omega (arith, fit .one-each))))
+
+  -- each term is at most weight × U
+  pub weighted-fits : (k : ℕ) → k ≤ length weights → weightedTo ws weights k ≤ unitsInOne * sumBelow k (λ q. getD weights q 0)
+  unfolding weightedTo
+  weighted-fits k l =
+      sum-scaled (λ q. getD weights q 0 * reliabilityAt ws q) (λ q. getD weights q 0) unitsInOne k
+      (λ q less.
+      let below : q < 2 ^ inputs ws = omega (arith, fit .one-each) in
+      omega (
+        arith,
+        mul-le-mul-right {m = reliabilityAt ws q} {n = unitsInOne} (getD weights q 0) (reliability-at-fits ws q sound below),
+        mul-comm (reliabilityAt ws q) (getD weights q 0),
+      ))
+
+  pub total-fits : (k : ℕ) → k ≤ length weights → sumBelow k (λ q. getD weights q 0) ≤ 4096 * largestWeight
+  total-fits k l =
+      let most : k ≤ 4096 = omega (arith, length-small) in
+      omega (arith, sum-at-most (λ q. getD weights q 0) largestWeight k (λ q less. fit .small q (omega arith)), mul-le-mul-right {m = k} {n = 4096} largestWeight most)
+
+  -- the average as the code has it
+  pub average-is : averageOf ws weights ≡ roundDiv (weightedTo ws weights (length weights)) (sumBelow (length weights) (λ q. getD weights q 0))
+  unfolding averageOf weightedTo
+  average-is =
+      ap
+      (λ (k : ℕ). roundDiv (sumBelow k (λ q. getD weights q 0 * reliabilityAt ws q)) (sumBelow k (λ q. getD weights q 0)))
+      (sym (fit .one-each))
+
+  -- and it fits a figure
+  pub average-fits : 0 < sumBelow (length weights) (λ q. getD weights q 0)
+      → roundDiv (weightedTo ws weights (length weights)) (sumBelow (length weights) (λ q. getD weights q 0)) ≤ unitsInOne
+  average-fits some = at-most (weightedTo ws weights (length weights)) _ some unitsInOne (weighted-fits (length weights) (omega arith))
