@@ -351,7 +351,7 @@ fn damage_length(random: &mut Random, draft: &mut Draft) -> bool {
     let right = draft.bytes().len() as u32;
     match random.below(8) {
         0 => {
-            let room = model::MAX_IMAGE + 1 - right as usize;
+            let room = (model::MAX_IMAGE + 1).saturating_sub(right as usize);
             let more = room + random.index(40);
             draft.heading.extend(std::iter::repeat_n(7, more));
             // Let the total agree, so that the length alone decides.
