@@ -50,8 +50,7 @@ impl Big {
         let mut limbs = self.0.clone();
         let mut borrow = 0i64;
         for (at, limb) in limbs.iter_mut().enumerate() {
-            let rest =
-                i64::from(*limb) - i64::from(other.0.get(at).copied().unwrap_or(0)) - borrow;
+            let rest = i64::from(*limb) - i64::from(other.0.get(at).copied().unwrap_or(0)) - borrow;
             borrow = i64::from(rest < 0);
             *limb = rest as u32;
         }
@@ -73,9 +72,8 @@ impl Big {
         for (low, left) in self.0.iter().enumerate().filter(|(_, left)| **left != 0) {
             let mut carry = 0u64;
             for (high, right) in other.0.iter().enumerate().skip(first) {
-                let sum = u64::from(*left) * u64::from(*right)
-                    + u64::from(limbs[low + high])
-                    + carry;
+                let sum =
+                    u64::from(*left) * u64::from(*right) + u64::from(limbs[low + high]) + carry;
                 limbs[low + high] = sum as u32;
                 carry = sum >> 32;
             }
@@ -127,10 +125,7 @@ impl Big {
     }
 
     pub fn compare(&self, other: &Big) -> Ordering {
-        self.0
-            .len()
-            .cmp(&other.0.len())
-            .then_with(|| self.0.iter().rev().cmp(other.0.iter().rev()))
+        self.0.len().cmp(&other.0.len()).then_with(|| self.0.iter().rev().cmp(other.0.iter().rev()))
     }
 
     pub fn at_most(&self, other: &Big) -> bool {

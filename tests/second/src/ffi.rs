@@ -89,13 +89,7 @@ pub fn read_netlist(area: &[u32]) -> Answer<NetlistReading> {
     let mut reliability = f64::from_bits(UNTOUCHED_BITS);
     // SAFETY: the slice is passed with its own length, and the three results outlive the call.
     let returned = unsafe {
-        c::bench_read_netlist(
-            area.as_ptr(),
-            area.len(),
-            &mut pattern,
-            &mut units,
-            &mut reliability,
-        )
+        c::bench_read_netlist(area.as_ptr(), area.len(), &mut pattern, &mut units, &mut reliability)
     };
     let reliability_bits = reliability.to_bits();
     let untouched =
@@ -107,9 +101,8 @@ pub fn read_gate(area: &[u32], gate: u32) -> Answer<GateReading> {
     let mut right = UNTOUCHED;
     let mut failure = UNTOUCHED;
     // SAFETY: the slice is passed with its own length, and both results outlive the call.
-    let returned = unsafe {
-        c::bench_read_gate(area.as_ptr(), area.len(), gate, &mut right, &mut failure)
-    };
+    let returned =
+        unsafe { c::bench_read_gate(area.as_ptr(), area.len(), gate, &mut right, &mut failure) };
     let untouched = right == UNTOUCHED && failure == UNTOUCHED;
     answer(returned, untouched, GateReading { right, failure })
 }

@@ -438,9 +438,8 @@ fn damage_output(random: &mut Random, draft: &mut Draft) -> bool {
 
 /// Makes some live gate read twice: by a second output, or by two pins of one live gate.
 fn damage_sharing(random: &mut Random, draft: &mut Draft) -> bool {
-    let read_by_outputs: Vec<usize> = (0..draft.outputs.len())
-        .filter(|at| draft.outputs[*at] >= draft.inputs)
-        .collect();
+    let read_by_outputs: Vec<usize> =
+        (0..draft.outputs.len()).filter(|at| draft.outputs[*at] >= draft.inputs).collect();
     if read_by_outputs.is_empty() {
         return false;
     }

@@ -477,8 +477,7 @@ fn dependents(area: &[u32], counts: Counts, source: u32) -> Vec<bool> {
         let before = depends.clone();
         for gate in 0..counts.gates {
             let reads_it = used_pins(area, gate).iter().any(|pin| {
-                *pin == source
-                    || (*pin >= counts.inputs && before[(*pin - counts.inputs) as usize])
+                *pin == source || (*pin >= counts.inputs && before[(*pin - counts.inputs) as usize])
             });
             if reads_it {
                 depends[gate as usize] = true;

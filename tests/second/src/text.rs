@@ -58,9 +58,7 @@ impl Maker {
             ["gate", ..] => Err("expected: gate NAME TABLE pins SOURCE... FLIP".to_string()),
             ["output", source] => self.output(source),
             ["output", ..] => Err("expected: output SOURCE".to_string()),
-            [other, ..] => {
-                Err(format!("`{other}` is none of heading, inputs, gate, output"))
-            }
+            [other, ..] => Err(format!("`{other}` is none of heading, inputs, gate, output")),
         }
     }
 
@@ -131,7 +129,9 @@ impl Maker {
     fn check_name(&self, name: &str) -> Result<(), String> {
         let reserved = ["pins", "never", "chance", "strike", "raw"];
         if reserved.contains(&name) || name.starts_with(|first: char| first.is_ascii_digit()) {
-            return Err(format!("`{name}` cannot be a name: it is a number or a word of the format"));
+            return Err(format!(
+                "`{name}` cannot be a name: it is a number or a word of the format"
+            ));
         }
         if self.names.iter().any(|known| known == name) {
             return Err(format!("there is a gate `{name}` already"));

@@ -77,12 +77,15 @@ fn check_area(area: &[u32], book: &Book, seen: &mut Seen) {
     let sum = book.sums().sum(&book.netlist, book.pattern);
     let exact = book.sums().milli_units(&sum, &book.netlist);
     let near = book.sums().reliability_is_near(units, &sum);
-    assert!(near, "{units} units, exact {exact} thousandths, pattern {}: {:?}", book.pattern, book.netlist);
+    assert!(
+        near,
+        "{units} units, exact {exact} thousandths, pattern {}: {:?}",
+        book.pattern, book.netlist
+    );
     seen.reliabilities += 1;
     let live = u64::from(model::live_count(&book.netlist));
-    if live > 0 {
-        seen.widest = seen.widest.max(exact.abs_diff(1000 * u64::from(units)) / live);
-    }
+    let distance = exact.abs_diff(1000 * u64::from(units));
+    seen.widest = seen.widest.max(distance.checked_div(live).unwrap_or(0));
 }
 
 fn check_result(call: &Call, reply: &Reply, book: &Book, seen: &mut Seen) {

@@ -229,7 +229,8 @@ fn check_calls(set: u32, rule: usize) {
     let answer = ffi::read_gate(&before, if bad_name { u32::MAX } else { 2 });
     let wanted = expected(area_only, (), u32::MAX, (0, 0));
     assert_eq!(answer.number(), wanted.number(), "read gate, {told}");
-    if let (Answer::Refused { place, .. }, Answer::Refused { place: wanted, .. }) = (answer, wanted) {
+    if let (Answer::Refused { place, .. }, Answer::Refused { place: wanted, .. }) = (answer, wanted)
+    {
         assert_eq!(place, wanted, "read gate, {told}");
     }
 

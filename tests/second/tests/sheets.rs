@@ -122,11 +122,8 @@ fn readers_of_live_gates() {
     let input_twice = draft(1, vec![Record::new(8, &[0, 0], NEVER)], &[1]);
     assert_eq!(open_answer(&input_twice), Answer::Done(1));
     // One live and one dead reader.
-    let dead = draft(
-        1,
-        vec![buffer(), Record::new(2, &[1], NEVER), Record::new(1, &[1], NEVER)],
-        &[2],
-    );
+    let dead =
+        draft(1, vec![buffer(), Record::new(2, &[1], NEVER), Record::new(1, &[1], NEVER)], &[2]);
     assert_eq!(open_answer(&dead), Answer::Done(2));
     // A gate that only a dead gate reads, and twice: both are dead.
     let dead_pair = draft(1, vec![buffer(), Record::new(8, &[1, 1], NEVER)], &[0]);
@@ -198,6 +195,40 @@ fn counts_at_their_limits() {
     assert_eq!(open_answer(&draft(1, vec![], &[0; 65])), refused(3, 0));
     // Nothing to read at all: every output word is too large.
     assert_eq!(open_answer(&draft(0, vec![], &[0])), refused(8, 0));
+}
+
+/// For each pin count: the highest table bit and the latest source are taken, the next are not.
+#[test]
+fn gate_records_at_their_limits() {
+    for pins in 0..=4usize {
+        let rows = 1u32 << pins;
+        let sources = [1, 0, 0, 0];
+        let sound = Record::new(1 << (rows - 1), &sources[..pins], NEVER);
+        let with = |change: &dyn Fn(&mut Record)| {
+            let mut record = sound.clone();
+            change(&mut record);
+            // Gate 0 reads nothing; gate 1 is the one under test and may read sources 0 and 1.
+            open_answer(&draft(1, vec![Record::new(1, &[], NEVER), record], &[2]))
+        };
+        let live = if pins == 0 { 1 } else { 2 };
+        assert_eq!(with(&|_| {}), Answer::Done(live), "{pins} pins");
+        if pins < 4 {
+            assert_eq!(with(&|record| record.table |= 1 << rows), refused(5, 1));
+            assert_eq!(with(&|record| record.table |= 1 << 15), refused(5, 1));
+            assert_eq!(with(&|record| record.pins[pins] = 1), refused(5, 1));
+            assert_eq!(with(&|record| record.pins[3] = 256), refused(5, 1));
+        }
+        for pin in 0..pins {
+            assert_eq!(with(&|record| record.pins[pin] = 2), refused(6, 1), "pin {pin}");
+            assert_eq!(with(&|record| record.pins[pin] = 65_535), refused(6, 1), "pin {pin}");
+        }
+        assert_eq!(with(&|record| record.pin_count = 5), refused(5, 1));
+        assert_eq!(with(&|record| record.pin_count = 255), refused(5, 1));
+    }
+    let outputs = |word| open_answer(&draft(2, vec![Record::new(2, &[0], NEVER)], &[0, word]));
+    assert_eq!(outputs(2), Answer::Done(1));
+    assert_eq!(outputs(3), refused(8, 1));
+    assert_eq!(outputs(65_535), refused(8, 1));
 }
 
 #[test]
