@@ -62,6 +62,8 @@ pub enum Rounding {
 #[derive(Clone, Copy, Debug)]
 pub struct Variant {
     pub rounding: Rounding,
+    /// The last division of an average.
+    pub average_rounding: Rounding,
     pub dead_readers_count: bool,
     pub not_a_number_passes: bool,
 }
@@ -69,6 +71,7 @@ pub struct Variant {
 impl Variant {
     pub const DOCUMENT: Variant = Variant {
         rounding: Rounding::HalfUp,
+        average_rounding: Rounding::HalfUp,
         dead_readers_count: false,
         not_a_number_passes: false,
     };
@@ -656,7 +659,7 @@ impl Model {
             weight_sum += u128::from(*weight);
         }
         self.work_out_all(area, counts);
-        Ok(divide(self.variant.rounding, sum, weight_sum) as u32)
+        Ok(divide(self.variant.average_rounding, sum, weight_sum) as u32)
     }
 }
 

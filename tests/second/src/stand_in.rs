@@ -8,7 +8,7 @@ use std::sync::OnceLock;
 #[derive(Clone, Copy, Debug, PartialEq, Eq)]
 enum Fault {
     None,
-    /// Every division rounds down.
+    /// Every division but the last of an average rounds down.
     RoundDown,
     /// A half goes to the even neighbour.
     HalfEven,
@@ -38,15 +38,17 @@ enum Fault {
     ReliabilityInF32,
     /// Average leaves the figures of the last pattern.
     AverageLeaves,
-    /// Average rounds down.
+    /// The last division of an average rounds down.
     AverageDown,
+    /// The last division of an average takes a half to the even neighbour.
+    AverageEven,
     /// Opening lowers the reliability by two units for each live gate: only just too far off.
     TwoUnitsOff,
     /// The live count includes dead gates.
     AllLive,
 }
 
-const FAULTS: [(&str, Fault); 18] = [
+const FAULTS: [(&str, Fault); 19] = [
     ("round_down", Fault::RoundDown),
     ("half_even", Fault::HalfEven),
     ("dead_readers", Fault::DeadReaders),
@@ -63,6 +65,7 @@ const FAULTS: [(&str, Fault); 18] = [
     ("reliability_in_f32", Fault::ReliabilityInF32),
     ("average_leaves", Fault::AverageLeaves),
     ("average_down", Fault::AverageDown),
+    ("average_even", Fault::AverageEven),
     ("two_units_off", Fault::TwoUnitsOff),
     ("all_live", Fault::AllLive),
 ];
@@ -85,6 +88,8 @@ fn bench() -> Model {
     match fault() {
         Fault::RoundDown => variant.rounding = Rounding::Down,
         Fault::HalfEven => variant.rounding = Rounding::HalfEven,
+        Fault::AverageDown => variant.average_rounding = Rounding::Down,
+        Fault::AverageEven => variant.average_rounding = Rounding::HalfEven,
         Fault::DeadReaders => variant.dead_readers_count = true,
         Fault::NotANumber => variant.not_a_number_passes = true,
         _ => {}
@@ -238,32 +243,15 @@ pub unsafe extern "C" fn bench_average(
     let weights = std::slice::from_raw_parts(weights, weights_len);
     let bench = bench();
     let mut last = area.to_vec();
-    let mut answer = bench.average(area, weights);
-    if let Answer::Done(_) = answer {
+    let answer = bench.average(area, weights);
+    if let Answer::Done(average) = answer {
         if fault() == Fault::AverageLeaves {
             last[PATTERN] = weights.len() as u32 - 1;
             bench.average(&mut last, weights);
             last[PATTERN] = area[PATTERN];
             area.copy_from_slice(&last);
         }
-        if fault() == Fault::AverageDown {
-            // The figures do round as they should; only the last division does not.
-            answer = average_down(&bench, area, weights);
-        }
-        *units = answer.done();
+        *units = average;
     }
     encode(&answer)
-}
-
-fn average_down(bench: &Model, area: &[u32], weights: &[u32]) -> Answer<u32> {
-    let mut trial = area.to_vec();
-    let mut sum = 0u64;
-    for (pattern, weight) in weights.iter().enumerate() {
-        // One weight alone makes the average that pattern's reliability.
-        let mut alone = vec![0; weights.len()];
-        alone[pattern] = 1;
-        sum += u64::from(*weight) * u64::from(bench.average(&mut trial, &alone).done());
-    }
-    let weight_sum: u64 = weights.iter().map(|weight| u64::from(*weight)).sum();
-    Answer::Done((sum / weight_sum) as u32)
 }
