@@ -1,0 +1,94 @@
+//! Random arguments for the calls, good ones mostly.
+
+use crate::compare::Call;
+use crate::images::{bad_flip, damage, good_draft, good_flip, noise, Size};
+use crate::model::{Counts, HEAD, MAX_WEIGHT};
+use crate::random::Random;
+
+/// A number that should name one of `count` things; once in ten it names none.
+pub fn name(random: &mut Random, count: u32) -> u32 {
+    if count == 0 || random.once_in(10) {
+        return random.pick(&[count, count, count + 1, 31, 32, 1 << 16, 1 << 29, u32::MAX]);
+    }
+    random.below(u64::from(count)) as u32
+}
+
+/// A flip that is good six times in seven.
+pub fn flip(random: &mut Random) -> (u8, [u8; 8]) {
+    if random.once_in(7) {
+        bad_flip(random)
+    } else {
+        good_flip(random)
+    }
+}
+
+/// Weights for 2^inputs patterns, with every fault of refusal 12 now and then.
+pub fn weights(random: &mut Random, inputs: u32) -> Vec<u32> {
+    let right = 1usize << inputs;
+    let length = match random.below(12) {
+        0 => random.pick(&[0, right - 1, right + 1, 2 * right]),
+        _ => right,
+    };
+    let most = random.pick(&[1, 3, 1000, MAX_WEIGHT]);
+    let mut weights: Vec<u32> =
+        (0..length).map(|_| random.below(u64::from(most) + 1) as u32).collect();
+    if random.once_in(8) {
+        weights.fill(random.pick(&[0, 0, 1, MAX_WEIGHT]));
+    }
+    if random.once_in(8) && !weights.is_empty() {
+        // One or two that are too large, or one at the limit.
+        for _ in 0..random.between(1, 2) {
+            let at = random.index(weights.len());
+            weights[at] = random.pick(&[MAX_WEIGHT, MAX_WEIGHT + 1, MAX_WEIGHT + 1, u32::MAX]);
+        }
+    }
+    weights
+}
+
+/// An image: whole, damaged in one to three ways, or noise.
+pub fn image(random: &mut Random, size: Size) -> Vec<u8> {
+    let mut draft = good_draft(random, size);
+    match random.below(4) {
+        0 => noise(random, &draft.bytes()),
+        1 => {
+            let mut numbers: Vec<u8> =
+                (0..random.between(1, 3)).map(|_| random.between(1, 9) as u8).collect();
+            // Later parts first: damage to the lengths is measured on what the others left.
+            numbers.sort_by(|a, b| b.cmp(a));
+            for number in numbers {
+                damage(random, &mut draft, number);
+            }
+            draft.bytes()
+        }
+        _ => draft.bytes(),
+    }
+}
+
+/// How many words to lend: nearly always all of them.
+pub fn lent(random: &mut Random, all: usize, needs: usize) -> usize {
+    let wish = match random.below(40) {
+        0 => random.index(HEAD + 1),
+        1 => needs.saturating_sub(1),
+        2 => needs,
+        3 => random.index(all + 1),
+        _ => all,
+    };
+    wish.min(all)
+}
+
+/// Any call on an area with these counts. Averages cost a whole evaluation for each pattern, so they
+/// are made only where `averages` allows.
+pub fn call(random: &mut Random, counts: Counts, size: Size, averages: bool) -> Call {
+    match random.below(20) {
+        0..=5 => Call::Toggle(name(random, counts.inputs)),
+        6..=10 => {
+            let (kind, field) = flip(random);
+            Call::Set { gate: name(random, counts.gates), kind, field }
+        }
+        11..=12 => Call::ReadNetlist,
+        13..=15 => Call::ReadGate(name(random, counts.gates)),
+        16..=18 if averages => Call::Average(weights(random, counts.inputs)),
+        16..=18 => Call::Toggle(name(random, counts.inputs)),
+        _ => Call::Open(image(random, size)),
+    }
+}

@@ -1,0 +1,84 @@
+//! The book: what is current and exact after a list of calls. It sees the calls' arguments and the
+//! lent area's length, and never a word of the area or an answer.
+
+use crate::compare::Call;
+use crate::exact::ExactSums;
+use crate::model::{self, flip_chance, Counts, Model, Netlist, Refusal};
+
+pub struct Book {
+    pub netlist: Netlist,
+    pub pattern: u32,
+    sums: ExactSums,
+}
+
+impl Book {
+    /// The book that a first accepted opening begins.
+    pub fn begin(area_len: usize, image: &[u8]) -> Result<Book, Refusal> {
+        let netlist = judge_opening(area_len, image)?;
+        let sums = ExactSums::new(&netlist);
+        Ok(Book { netlist, pattern: 0, sums })
+    }
+
+    pub fn sums(&self) -> &ExactSums {
+        &self.sums
+    }
+
+    fn counts(&self) -> Counts {
+        Counts {
+            inputs: self.netlist.inputs,
+            gates: self.netlist.gates.len() as u32,
+            outputs: self.netlist.outputs.len() as u32,
+        }
+    }
+
+    /// Judges a call and, if it is not refused, enters it.
+    pub fn enter(&mut self, area_len: usize, call: &Call) -> Result<(), Refusal> {
+        if let Call::Open(image) = call {
+            *self = Book::begin(area_len, image)?;
+            return Ok(());
+        }
+        if area_len < self.counts().words() {
+            return Err(Refusal { number: 13, place: 0 });
+        }
+        match call {
+            Call::Open(_) | Call::ReadNetlist => {}
+            Call::Toggle(input) => {
+                named_exists(*input, self.counts().inputs)?;
+                self.pattern ^= 1 << input;
+            }
+            Call::Set { gate, kind, field } => {
+                named_exists(*gate, self.counts().gates)?;
+                let refused = Refusal { number: 11, place: *gate };
+                let chance = flip_chance(*kind, *field).ok_or(refused)?;
+                let entry = &mut self.netlist.gates[*gate as usize];
+                entry.kind = *kind;
+                entry.chance = chance;
+                self.sums = ExactSums::new(&self.netlist);
+            }
+            Call::ReadGate(gate) => named_exists(*gate, self.counts().gates)?,
+            Call::Average(weights) => model::judge_weights(self.netlist.inputs, weights)?,
+        }
+        Ok(())
+    }
+}
+
+fn judge_opening(area_len: usize, image: &[u8]) -> Result<Netlist, Refusal> {
+    let netlist = Model::DOCUMENT.netlist(image)?;
+    let counts = Counts {
+        inputs: netlist.inputs,
+        gates: netlist.gates.len() as u32,
+        outputs: netlist.outputs.len() as u32,
+    };
+    if area_len < counts.words() {
+        return Err(Refusal { number: 13, place: 0 });
+    }
+    Ok(netlist)
+}
+
+fn named_exists(named: u32, count: u32) -> Result<(), Refusal> {
+    if named < count {
+        Ok(())
+    } else {
+        Err(Refusal { number: 10, place: named })
+    }
+}

@@ -1,0 +1,257 @@
+//! The model behind the library's six names, so that every test can run against itself. With
+//! `FAULT=name` in the environment it errs in one way, to show that the tests notice.
+
+use crate::answer::{Answer, Bench};
+use crate::model::{self, Counts, Model, Rounding, Variant, PATTERN, RELIABILITY};
+use std::sync::OnceLock;
+
+#[derive(Clone, Copy, Debug, PartialEq, Eq)]
+enum Fault {
+    None,
+    /// Every division but the last of an average rounds down.
+    RoundDown,
+    /// A half goes to the even neighbour.
+    HalfEven,
+    /// Dead gates count as readers in refusal 9.
+    DeadReaders,
+    /// A chance that is no number is taken for 0.
+    NotANumber,
+    /// A strike and its window are multiplied in f32.
+    StrikeInF32,
+    /// Opening looks at the area's length before anything else.
+    LengthFirst,
+    /// Turning an input leaves the reliability as it was.
+    StaleReliability,
+    /// Turning an input changes the pattern alone.
+    Echo,
+    /// Setting a flip works out that gate's flip word but no figure.
+    SetOnly,
+    /// Opening clears a word past the last output.
+    PastEnd,
+    /// A refused read writes its results.
+    TouchOut,
+    /// A refused turn changes the pattern.
+    WriteRefused,
+    /// Every place is 0.
+    PlaceZero,
+    /// The f64 passes through f32.
+    ReliabilityInF32,
+    /// Average leaves the figures of the last pattern.
+    AverageLeaves,
+    /// The last division of an average rounds down.
+    AverageDown,
+    /// The last division of an average takes a half to the even neighbour.
+    AverageEven,
+    /// Opening lowers the reliability by two units for each live gate: only just too far off.
+    TwoUnitsOff,
+    /// The live count includes dead gates.
+    AllLive,
+}
+
+const FAULTS: [(&str, Fault); 19] = [
+    ("round_down", Fault::RoundDown),
+    ("half_even", Fault::HalfEven),
+    ("dead_readers", Fault::DeadReaders),
+    ("not_a_number", Fault::NotANumber),
+    ("strike_in_f32", Fault::StrikeInF32),
+    ("length_first", Fault::LengthFirst),
+    ("stale_reliability", Fault::StaleReliability),
+    ("echo", Fault::Echo),
+    ("set_only", Fault::SetOnly),
+    ("past_end", Fault::PastEnd),
+    ("touch_out", Fault::TouchOut),
+    ("write_refused", Fault::WriteRefused),
+    ("place_zero", Fault::PlaceZero),
+    ("reliability_in_f32", Fault::ReliabilityInF32),
+    ("average_leaves", Fault::AverageLeaves),
+    ("average_down", Fault::AverageDown),
+    ("average_even", Fault::AverageEven),
+    ("two_units_off", Fault::TwoUnitsOff),
+    ("all_live", Fault::AllLive),
+];
+
+fn fault() -> Fault {
+    static CHOSEN: OnceLock<Fault> = OnceLock::new();
+    *CHOSEN.get_or_init(|| {
+        let Ok(name) = std::env::var("FAULT") else {
+            return Fault::None;
+        };
+        match FAULTS.iter().find(|(known, _)| *known == name) {
+            Some((_, fault)) => *fault,
+            None => panic!("FAULT={name} is none of {:?}", FAULTS.map(|(known, _)| known)),
+        }
+    })
+}
+
+fn bench() -> Model {
+    let mut variant = Variant::DOCUMENT;
+    match fault() {
+        Fault::RoundDown => variant.rounding = Rounding::Down,
+        Fault::HalfEven => variant.rounding = Rounding::HalfEven,
+        Fault::AverageDown => variant.average_rounding = Rounding::Down,
+        Fault::AverageEven => variant.average_rounding = Rounding::HalfEven,
+        Fault::DeadReaders => variant.dead_readers_count = true,
+        Fault::NotANumber => variant.not_a_number_passes = true,
+        _ => {}
+    }
+    Model { variant }
+}
+
+/// An answer as the library returns it.
+fn encode<T>(answer: &Answer<T>) -> u64 {
+    match answer {
+        Answer::Done(_) => 0,
+        Answer::Refused { number, place } => {
+            let place = if fault() == Fault::PlaceZero { 0 } else { *place };
+            (u64::from(*number) << 32) + u64::from(place)
+        }
+    }
+}
+
+/// # Safety
+/// The pointers and lengths must describe slices that may be used so for the time of the call.
+#[no_mangle]
+pub unsafe extern "C" fn bench_open(
+    area: *mut u32,
+    area_len: usize,
+    image: *const u8,
+    image_len: usize,
+    live: *mut u32,
+) -> u64 {
+    let area = std::slice::from_raw_parts_mut(area, area_len);
+    let image = std::slice::from_raw_parts(image, image_len);
+    if fault() == Fault::LengthFirst && area.len() < model::HEAD {
+        return 13 << 32;
+    }
+    let answer = bench().open(area, image);
+    if let Answer::Done(count) = answer {
+        let counts = Counts { inputs: area[0], gates: area[1], outputs: area[2] };
+        *live = if fault() == Fault::AllLive { counts.gates } else { count };
+        if fault() == Fault::PastEnd && area.len() > counts.words() {
+            area[counts.words()] = 0;
+        }
+        if fault() == Fault::TwoUnitsOff {
+            area[RELIABILITY] = area[RELIABILITY].saturating_sub(2 * count);
+        }
+    }
+    encode(&answer)
+}
+
+/// # Safety
+/// As for `bench_open`.
+#[no_mangle]
+pub unsafe extern "C" fn bench_toggle_input(area: *mut u32, area_len: usize, input: u32) -> u64 {
+    let area = std::slice::from_raw_parts_mut(area, area_len);
+    let before = area.to_vec();
+    let answer = bench().toggle_input(area, input);
+    match (fault(), answer) {
+        (Fault::StaleReliability, Answer::Done(())) => area[RELIABILITY] = before[RELIABILITY],
+        (Fault::Echo, Answer::Done(())) => {
+            let pattern = area[PATTERN];
+            area.copy_from_slice(&before);
+            area[PATTERN] = pattern;
+        }
+        (Fault::WriteRefused, Answer::Refused { number: 10, .. }) => area[PATTERN] ^= 1,
+        _ => {}
+    }
+    encode(&answer)
+}
+
+/// # Safety
+/// As for `bench_open`.
+#[no_mangle]
+pub unsafe extern "C" fn bench_set_flip(
+    area: *mut u32,
+    area_len: usize,
+    gate: u32,
+    mut kind: u8,
+    field: u64,
+) -> u64 {
+    let area = std::slice::from_raw_parts_mut(area, area_len);
+    let before = area.to_vec();
+    let mut field = field.to_le_bytes();
+    if fault() == Fault::StrikeInF32 && kind == 2 && model::flip_chance(kind, field).is_some() {
+        let number = u64::from_le_bytes(field);
+        let product = f32::from_bits(number as u32) * f32::from_bits((number >> 32) as u32);
+        (kind, field) = (1, f64::from(product).to_le_bytes());
+    }
+    let answer = bench().set_flip(area, gate, kind, field);
+    if let (Fault::SetOnly, Answer::Done(())) = (fault(), answer) {
+        let at = model::gate_at(gate) + model::FLIP;
+        let units = area[at];
+        area.copy_from_slice(&before);
+        area[at] = units;
+    }
+    encode(&answer)
+}
+
+/// # Safety
+/// As for `bench_open`.
+#[no_mangle]
+pub unsafe extern "C" fn bench_read_netlist(
+    area: *const u32,
+    area_len: usize,
+    pattern: *mut u32,
+    units: *mut u32,
+    reliability: *mut f64,
+) -> u64 {
+    let area = std::slice::from_raw_parts(area, area_len);
+    let answer = bench().read_netlist(area);
+    if let Answer::Done(reading) = answer {
+        *pattern = reading.pattern;
+        *units = reading.units;
+        *reliability = f64::from_bits(reading.reliability_bits);
+        if fault() == Fault::ReliabilityInF32 {
+            *reliability = f64::from(*reliability as f32);
+        }
+    } else if fault() == Fault::TouchOut {
+        *reliability = 0.0;
+    }
+    encode(&answer)
+}
+
+/// # Safety
+/// As for `bench_open`.
+#[no_mangle]
+pub unsafe extern "C" fn bench_read_gate(
+    area: *const u32,
+    area_len: usize,
+    gate: u32,
+    right: *mut u32,
+    failure: *mut u32,
+) -> u64 {
+    let area = std::slice::from_raw_parts(area, area_len);
+    let answer = bench().read_gate(area, gate);
+    if let Answer::Done(reading) = answer {
+        *right = reading.right;
+        *failure = reading.failure;
+    }
+    encode(&answer)
+}
+
+/// # Safety
+/// As for `bench_open`.
+#[no_mangle]
+pub unsafe extern "C" fn bench_average(
+    area: *mut u32,
+    area_len: usize,
+    weights: *const u32,
+    weights_len: usize,
+    units: *mut u32,
+) -> u64 {
+    let area = std::slice::from_raw_parts_mut(area, area_len);
+    let weights = std::slice::from_raw_parts(weights, weights_len);
+    let bench = bench();
+    let mut last = area.to_vec();
+    let answer = bench.average(area, weights);
+    if let Answer::Done(average) = answer {
+        if fault() == Fault::AverageLeaves {
+            last[PATTERN] = weights.len() as u32 - 1;
+            bench.average(&mut last, weights);
+            last[PATTERN] = area[PATTERN];
+            area.copy_from_slice(&last);
+        }
+        *units = average;
+    }
+    encode(&answer)
+}

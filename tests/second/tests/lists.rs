@@ -1,0 +1,177 @@
+//! Lists of calls on small netlists. After each call the reliability must lie near the exact sum over
+//! all flip patterns, and each average near the exact one; what is refused is judged by the book.
+//! The library alone is driven here, so that these bounds do not lean on the model's figures.
+
+use second::arguments;
+use second::book::Book;
+use second::compare::{perform, Call, Reply, CALL_NAMES};
+use second::exact::{self, Big};
+use second::ffi::Library;
+use second::images::{bad_flip, good_draft, good_flip, Size};
+use second::model::{self, Counts};
+use second::random::{seed, Random};
+
+const SIZE: Size = Size { inputs: 3, gates: 10, outputs: 4 };
+const LISTS: usize = 1_500;
+const CALLS_IN_A_LIST: usize = 30;
+
+/// Room for the largest netlist of these lists, and for some words past it.
+const WORDS: usize = 8 + 8 * 10 + 4 + 5;
+
+#[derive(Default)]
+struct Seen {
+    calls: [u64; 6],
+    refused: u64,
+    reliabilities: u64,
+    averages: u64,
+    /// The largest distance for each live gate, in thousandths of a unit.
+    widest: u64,
+}
+
+#[test]
+fn after_any_list_the_figures_are_near_the_exact_ones() {
+    let mut random = Random::new(seed() ^ 5);
+    let mut seen = Seen::default();
+    for _ in 0..LISTS {
+        one_list(&mut random, &mut seen);
+    }
+    for (name, calls) in CALL_NAMES.iter().zip(seen.calls) {
+        println!("{name}: {calls} calls");
+    }
+    println!("{} of them refused", seen.refused);
+    println!("{} reliabilities and {} averages within bounds", seen.reliabilities, seen.averages);
+    println!("widest distance: 0.{:03} units for each live gate", seen.widest);
+    assert!(seen.averages >= 1_000);
+}
+
+fn one_list(random: &mut Random, seen: &mut Seen) {
+    let mut area: Vec<u32> = (0..WORDS).map(|_| random.word()).collect();
+    let first = good_draft(random, SIZE).bytes();
+    let mut book = Book::begin(WORDS, &first).expect("a good draft");
+    let reply = perform(&Library, &mut area, &Call::Open(first));
+    assert_eq!(reply.refusal(), None);
+    check_area(&area, &book, seen);
+    for _ in 0..CALLS_IN_A_LIST {
+        let counts = Counts {
+            inputs: book.netlist.inputs,
+            gates: book.netlist.gates.len() as u32,
+            outputs: book.netlist.outputs.len() as u32,
+        };
+        let call = arguments::call(random, counts, SIZE, true);
+        let lent = arguments::lent(random, WORDS, counts.words());
+        let reply = perform(&Library, &mut area[..lent], &call);
+        let judged = book.enter(lent, &call).err().map(|refusal| (refusal.number, refusal.place));
+        assert_eq!(reply.refusal(), judged, "{call:?} with {lent} words");
+        seen.calls[call.row()] += 1;
+        seen.refused += u64::from(judged.is_some());
+        check_area(&area, &book, seen);
+        if judged.is_none() {
+            check_result(&call, &reply, &book, seen);
+        }
+    }
+}
+
+fn check_area(area: &[u32], book: &Book, seen: &mut Seen) {
+    assert_eq!(area[model::PATTERN], book.pattern);
+    let units = area[model::RELIABILITY];
+    let sum = book.sums().sum(&book.netlist, book.pattern);
+    let exact = book.sums().milli_units(&sum, &book.netlist);
+    let near = book.sums().reliability_is_near(units, &sum);
+    assert!(
+        near,
+        "{units} units, exact {exact} thousandths, pattern {}: {:?}",
+        book.pattern, book.netlist
+    );
+    seen.reliabilities += 1;
+    let live = u64::from(model::live_count(&book.netlist));
+    let distance = exact.abs_diff(1000 * u64::from(units));
+    seen.widest = seen.widest.max(distance.checked_div(live).unwrap_or(0));
+}
+
+fn check_result(call: &Call, reply: &Reply, book: &Book, seen: &mut Seen) {
+    match (call, reply) {
+        (Call::Average(weights), Reply::Average(answer)) => {
+            let units = answer.done();
+            let near = book.sums().average_is_near(units, &book.netlist, weights);
+            assert!(near, "average {units} with {weights:?} of {:?}", book.netlist);
+            seen.averages += 1;
+        }
+        (Call::Open(_), Reply::Open(answer)) => {
+            assert_eq!(answer.done(), model::live_count(&book.netlist));
+        }
+        (Call::ReadNetlist, Reply::ReadNetlist(answer)) => {
+            assert_eq!(answer.done().pattern, book.pattern);
+        }
+        _ => {}
+    }
+}
+
+/// The terms of an exact sum are complete, for chances of every kind.
+#[test]
+fn all_flip_patterns_together_have_chance_one() {
+    let mut random = Random::new(seed() ^ 6);
+    for _ in 0..100 {
+        let image = good_draft(&mut random, SIZE).bytes();
+        let book = Book::begin(WORDS, &image).expect("a good draft");
+        assert!(book.sums().terms_add_up());
+    }
+}
+
+/// A bound that accepts everything would prove nothing: one unit beyond it is noticed.
+#[test]
+fn the_bounds_can_be_missed() {
+    let mut random = Random::new(seed() ^ 7);
+    for _ in 0..200 {
+        let image = good_draft(&mut random, SIZE).bytes();
+        let book = Book::begin(WORDS, &image).expect("a good draft");
+        let sum = book.sums().sum(&book.netlist, 0);
+        let nearest = (book.sums().milli_units(&sum, &book.netlist) / 1000) as u32;
+        let live = model::live_count(&book.netlist);
+        let too_far = nearest + (3 * live) / 2 + 2;
+        assert!(!book.sums().reliability_is_near(too_far, &sum));
+        let mut weights = vec![0; 1 << book.netlist.inputs];
+        weights[0] = 7;
+        assert!(!book.sums().average_is_near(too_far + 1, &book.netlist, &weights));
+    }
+}
+
+/// The library's conversion of chances against the definition, in whole numbers of 2^-1074.
+#[test]
+fn chances_become_the_nearest_units() {
+    let mut random = Random::new(seed() ^ 8);
+    let mut area = vec![1, 1, 1, 0, 0, 0, 0, 0, 1, 2, 0, 0, 0, 0, 0, 0, 1];
+    for _ in 0..200_000 {
+        let (kind, field) = good_flip(&mut random);
+        let chance = model::flip_chance(kind, field).expect("a good flip");
+        let reply = perform(&Library, &mut area, &Call::Set { gate: 0, kind, field });
+        assert_eq!(reply.refusal(), None, "kind {kind}, field {field:?}");
+        let units = u64::from(area[8 + model::FLIP]);
+        assert_eq!(units, exact::nearest_units(chance), "kind {kind}, field {field:?}");
+    }
+    for _ in 0..100_000 {
+        let (kind, field) = bad_flip(&mut random);
+        let reply = perform(&Library, &mut area, &Call::Set { gate: 0, kind, field });
+        assert_eq!(reply.refusal(), Some((11, 0)), "kind {kind}, field {field:?}");
+    }
+}
+
+/// The big numbers themselves, on cases small enough for u128.
+#[test]
+fn big_numbers_agree_with_small_ones() {
+    let mut random = Random::new(seed() ^ 9);
+    for _ in 0..100_000 {
+        let mask = u64::MAX >> random.below(64);
+        let (a, b) = (random.bits() & mask, random.bits() >> random.below(64));
+        let (big_a, big_b) = (Big::from_u64(a), Big::from_u64(b));
+        let product = u128::from(a) * u128::from(b);
+        let mut halves = Big::from_u64((product >> 64) as u64).shifted(64);
+        halves.add(&Big::from_u64(product as u64));
+        assert_eq!(big_a.times(&big_b), halves);
+        assert_eq!(big_a.compare(&big_b), a.cmp(&b));
+        assert_eq!(big_a.distance(&big_b).to_u64(), Some(a.abs_diff(b)));
+        let shift = random.below(200) as u32;
+        assert_eq!(big_a.shifted(shift).shifted_down(shift), big_a);
+        let down = random.below(64) as u32;
+        assert_eq!(big_a.shifted_down(down).to_u64(), Some(a >> down));
+    }
+}
