@@ -14,6 +14,8 @@ use Rattle.bench.specs.declared.FlipSet.{FlipSet}
 use Rattle.bench.specs.declared.FlipSet.the-variants.{Done as SetDone, Refused as SetRefused}
 use Rattle.bench.specs.declared.NetlistRead.{NetlistRead}
 use Rattle.bench.specs.declared.NetlistRead.the-variants.{Done as NetlistDone, Refused as NetlistRefused}
+use Rattle.bench.specs.declared.Averaged.{Averaged}
+use Rattle.bench.specs.declared.Averaged.the-variants.{Done as AverageDone, Refused as AverageRefused}
 use Rattle.bench.specs.declared.GateRead.{GateRead}
 use Rattle.bench.specs.declared.GateRead.the-variants.{Done as GateDone, Refused as GateRefused}
 
@@ -29,6 +31,11 @@ toggled (refusal number place) = ToggleRefused number place
 abbrev pub flipSet : Judgement → FlipSet
 flipSet fine = SetDone
 flipSet (refusal number place) = SetRefused number place
+
+-- the average in units
+abbrev pub averaged : Judgement → ℕ → Averaged
+averaged fine units = AverageDone units
+averaged (refusal number place) units = AverageRefused number place
 
 -- right value and failure
 abbrev pub gateRead : Judgement → ℕ → ℕ → GateRead

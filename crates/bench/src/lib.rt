@@ -7,13 +7,14 @@ ghost use Rattle.netlist.specs.Live.{liveGates};
 ghost use Rattle.live.specs.Net.{netOf};
 ghost use Rattle.words.specs.Words.{gates, outputs, needed, pattern, reliabilityWord, figure};
 ghost use Rattle.words.specs.Rules.{Sound, areaRefusal};
-ghost use Rattle.words.specs.Work.{toggleWords, setWords};
-ghost use Rattle.calls.specs.Judged.{openJudgement, areaJudgement, toggleJudgement, setJudgement, gateJudgement};
-ghost use Rattle.calls.specs.Calls.{leftBy, openWords, openLive, flipUnits};
+ghost use Rattle.words.specs.Work.{workAll, toggleWords, setWords};
+ghost use Rattle.calls.specs.Judged.{openJudgement, areaJudgement, toggleJudgement, setJudgement, gateJudgement, averageJudgement};
+ghost use Rattle.calls.specs.Calls.{leftBy, openWords, openLive, flipUnits, averageOf};
 ghost use Rattle.bench.specs.Loaded.{loadedJudgement, loadedWords};
-ghost use Rattle.bench.specs.Answers.{opened, toggled, flipSet, gateRead, NetlistAnswer};
+ghost use Rattle.bench.specs.Answers.{opened, toggled, flipSet, gateRead, averaged, NetlistAnswer};
 use chance::FlipUnits;
 use image::Loaded;
+use patterns::WeightsJudged;
 use rules::Judged;
 
 // The answers: done with its result, or refused with number and place.
@@ -38,6 +39,11 @@ pub enum NetlistRead {
         units: u32,
         reliability: f64,
     },
+    Refused(u8, u32),
+}
+
+pub enum Averaged {
+    Done(u32),
     Refused(u8, u32),
 }
 
@@ -180,5 +186,21 @@ pub fn read_gate(area: &[u32], gate: u32) -> GateRead
     GateRead::Done {
         right: word % 2,
         failure: word / 2,
+    }
+}
+
+// The weighted average of the reliability over all patterns, weight q for pattern q. It leaves the figures worked out afresh.
+pub fn average(area: &mut [u32], weights: &[u32]) -> Averaged
+    ensures { λ r. ⌜ r ≡ averaged (averageJudgement (now (area .entry)) (now (weights .entry))) (averageOf (now (area .entry)) (now (weights .entry))) ⌝ }
+    ensures { λ _. ⌜ now (area .exit) ≡ leftBy (averageJudgement (now (area .entry)) (now (weights .entry))) (workAll (now (area .entry))) (now (area .entry)) ⌝ }
+{
+    let refusal = area_refusal(area);
+    if refusal != 0 {
+        return Averaged::Refused(refusal, 0);
+    }
+    let judged = patterns::judge_weights(index(area[0]), weights);
+    match judged {
+        WeightsJudged::Refused(place) => Averaged::Refused(12, place),
+        WeightsJudged::Fine => Averaged::Done(patterns::average(area, weights)),
     }
 }
