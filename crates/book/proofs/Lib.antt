@@ -7,3 +7,4 @@ pub mod Open
 pub mod Calls
 pub mod List
 pub mod Untouched
+pub mod Examples

@@ -1,0 +1,87 @@
+-- The printed sheet of document 01 as an image: it is accepted by an area of 33 words and by none of fewer, and enters that sheet's netlist in the book.
+-- Then a list of calls on it. By computation. Assumes nothing.
+use Prim.Native.Nat.{ℕ}
+use mathlib.Core.List.{List, [], _∷_}
+use mathlib.Core.Path.{_≡_, refl}
+use lib.Ieee.{ofBits}
+use lib.ListN.{replicate}
+use Rattle.chance.specs.Number.{chanceScale, wholeChance, fromZeroToOne}
+use Rattle.chance.specs.Flip.{flipOf, inRange, flipAccepted, chanceOf, flipChance}
+use Rattle.netlist.specs.Live.{liveReads, firstShared}
+use Rattle.netlist.specs.Sheets.{chanceHalf, printed}
+use Rattle.words.specs.Rules.{gateShape, usedBelow, countsInRange}
+use Rattle.image.specs.Judgement.{Judgement, fine, refusal}
+use Rattle.image.specs.Image.{middle}
+use Rattle.image.specs.Refusals.{lengthRight, backRight, trailerRefusal, gateRefusal, outputRefusal, middleRefusal, imageRefusal}
+use Rattle.image.specs.Loading.{recordChance, middleWords, imageWords}
+use Rattle.calls.specs.Judged.{sharedJudgement, openJudgement, weightsJudgement}
+use Rattle.calls.specs.Calls.{Call, open-image, toggle-input, set-flip, read-netlist, read-gate, take-average, openWords}
+use Rattle.book.specs.Book.{Book, imageNet, imageBook, withFlip, bookJudgement, bookStep}
+use Rattle.book.specs.Statement.{Kept}
+use Rattle.book.proofs.List.{demand3}
+
+abbrev pub printedImage : List ℕ
+printedImage =
+    1 ∷ 1 ∷ 2 ∷ 0 ∷ 0 ∷ 0 ∷ 0 ∷ 0 ∷ 0 ∷ 0 ∷ 0 ∷ 0 ∷ 0 ∷ 0 ∷ 0 ∷ 0 ∷ 0 ∷ 0 ∷ 0xe0 ∷ 0x3f
+    ∷ 1 ∷ 1 ∷ 2 ∷ 0 ∷ 1 ∷ 0 ∷ 0 ∷ 0 ∷ 0 ∷ 0 ∷ 0 ∷ 0 ∷ 0 ∷ 0 ∷ 0 ∷ 0 ∷ 0 ∷ 0 ∷ 0xe0 ∷ 0x3f
+    ∷ 2 ∷ 0 ∷ 8 ∷ 0 ∷ 2 ∷ 0 ∷ 3 ∷ 0 ∷ 0 ∷ 0 ∷ 0 ∷ 0 ∷ 0 ∷ 0 ∷ 0 ∷ 0 ∷ 0 ∷ 0 ∷ 0 ∷ 0
+    ∷ 4 ∷ 0
+    ∷ 2 ∷ 0 ∷ 3 ∷ 0 ∷ 1 ∷ 0 ∷ 1 ∷ 0 ∷ 62 ∷ 0 ∷ 0 ∷ 0 ∷ 78 ∷ 0 ∷ 0 ∷ 0 ∷ []
+
+pub not-refused : imageRefusal printedImage ≡ fine
+unfolding
+    imageRefusal trailerRefusal lengthRight countsInRange backRight middleRefusal middle gateRefusal outputRefusal gateShape usedBelow
+    flipAccepted inRange fromZeroToOne ofBits
+not-refused = refl
+
+pub book-net : imageNet printedImage ≡ printed
+unfolding imageNet middle recordChance flipChance flipOf chanceOf wholeChance chanceScale ofBits chanceHalf
+book-net = refl
+
+-- 8 + 8 × 3 + 1 words are enough, one fewer is 13
+pub accepted : openJudgement printedImage 33 ≡ fine
+unfolding openJudgement sharedJudgement firstShared liveReads imageWords middleWords middle
+accepted = rw not-refused refl
+
+pub too-short : openJudgement printedImage 32 ≡ refusal 13 0
+unfolding openJudgement sharedJudgement firstShared liveReads imageWords middleWords middle
+too-short = rw not-refused refl
+
+-- what the book says of a list of calls: input 1 toggled; no input 2; gate 0 to flip never; not-a-number; no gate 3; three weights; weights 0; an image of no bytes
+abbrev calls : List Call
+calls =
+    toggle-input 1
+    ∷ toggle-input 2
+    ∷ set-flip 0 0 (replicate 8 0)
+    ∷ set-flip 1 1 (0 ∷ 0 ∷ 0 ∷ 0 ∷ 0 ∷ 0 ∷ 0xf8 ∷ 0x7f ∷ [])
+    ∷ read-gate 3
+    ∷ take-average (1 ∷ 1 ∷ 1 ∷ [])
+    ∷ take-average (replicate 4 0)
+    ∷ take-average (replicate 4 1)
+    ∷ open-image []
+    ∷ read-netlist
+    ∷ []
+
+abbrev judgements : Book → ℕ → List Call → List Judgement
+judgements b size [] = []
+judgements b size (call ∷ more) = bookJudgement b size call ∷ judgements (bookStep b size call) size more
+
+pub said : judgements (imageBook printedImage) 33 calls
+    ≡ fine
+    ∷ refusal 10 2
+    ∷ fine
+    ∷ refusal 11 1
+    ∷ refusal 10 3
+    ∷ refusal 12 0
+    ∷ refusal 12 0
+    ∷ fine
+    ∷ refusal 1 0
+    ∷ fine
+    ∷ []
+unfolding
+    imageNet middle withFlip flipAccepted inRange fromZeroToOne ofBits weightsJudgement openJudgement imageRefusal trailerRefusal lengthRight
+said = refl
+
+-- and demand 3 speaks of it
+pub kept : Kept (openWords printedImage (replicate 33 0)) (imageBook printedImage) calls
+kept = demand3 (replicate 33 0) printedImage calls accepted
