@@ -1,3 +1,4 @@
 pub mod Judged
 pub mod Copy
 pub mod Opening
+pub mod Weights
