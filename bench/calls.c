@@ -1,0 +1,298 @@
+/* Times the calls of the proved library beside the same steps written in C, on the same netlists in one run: open, toggle_input, set_flip and average
+   on forests of 2-, 3- and 4-pin gates, a chain, and a forest whose gates are mostly dead; 12 inputs, 1,024 gates. Build and run: bench/run-calls.
+   The C steps make the same checks as the library: refusals 1 to 9 and 13 at opening, 13 and 14 on every other call. */
+#include <math.h>
+#include <stdint.h>
+#include <stdio.h>
+#include <stdlib.h>
+#include <string.h>
+#include <time.h>
+
+#include "../include/bench.h"
+
+#define U 1073741824ull
+#define N 12
+#define G 1024
+#define WORDS (8 + 8 * G + 64)
+
+static uint64_t seed = 88172645463325252ull;
+static uint64_t next(void) { seed ^= seed << 13; seed ^= seed >> 7; seed ^= seed << 17; return seed; }
+
+/* ---- images */
+
+static uint8_t image[32768];
+static size_t image_len;
+
+static void put16(size_t at, unsigned x) { image[at] = x & 255; image[at + 1] = x >> 8; }
+static void put32(size_t at, unsigned x) { put16(at, x & 65535); put16(at + 2, x >> 16); }
+
+/* pins: pins a gate; chain: every gate reads the one before; dead: only the last 32 gates' trees are read by outputs */
+static void make(unsigned pins, int chain, int dead) {
+    static unsigned unread[G];
+    unsigned waiting = 0;
+    memset(image, 0, sizeof image);
+    for (unsigned j = 0; j < G; j++) {
+        size_t at = 20 * j;
+        double chance = 0.01 + (double)(next() % 1000) / 20000.0;
+        image[at] = pins;
+        image[at + 1] = 1;
+        put16(at + 2, (unsigned)(next() & ((1ull << (1u << pins)) - 1)));
+        for (unsigned i = 0; i < pins; i++) {
+            unsigned source = (unsigned)(next() % N);
+            if (chain ? i == 0 && j > 0 : waiting > 0 && (waiting > 60 || next() % pins == 0)) {
+                unsigned k = (unsigned)(next() % waiting);
+                source = N + (chain ? j - 1 : unread[k]);
+                unread[k] = unread[--waiting];
+            }
+            put16(at + 4 + 2 * i, source);
+        }
+        memcpy(image + at + 12, &chance, 8);
+        unread[waiting++] = j;
+    }
+    unsigned outputs = chain ? 1 : dead ? 1 : waiting;
+    for (unsigned k = 0; k < outputs; k++) put16(20 * G + 2 * k, N + (chain || dead ? G - 1 : unread[k]));
+    size_t t = 20 * G + 2 * outputs;
+    put16(t, N), put16(t + 2, G), put16(t + 4, outputs), put16(t + 6, 1), put32(t + 8, (unsigned)t), put32(t + 12, (unsigned)t + 16);
+    image_len = t + 16;
+}
+
+/* ---- the same steps in C */
+
+static inline uint64_t blend(uint64_t r, uint64_t w, uint64_t f) { return (r * (U - f) + w * f + U / 2) / U; }
+#define STEP(n, f) for (int k = 0; k < (n); k++) v[k] = blend(v[2 * k], v[2 * k + 1], f)
+#define START(n) for (uint32_t e = 0; e < (n); e++) v[e] = (table >> (index ^ e) & 1) != right ? U : 0
+
+static inline uint32_t source_word(const uint32_t *a, uint32_t s) { return s < a[0] ? a[3] >> s & 1 : a[8 + 8 * (s - a[0]) + 7]; }
+
+static inline void c_gate(uint32_t *a, uint32_t j) {
+    uint32_t *g = a + 8 + 8 * j, table = g[1], index = 0, w[4] = {0, 0, 0, 0};
+    for (uint32_t i = 0; i < g[0]; i++) w[i] = source_word(a, g[2 + i]), index |= (w[i] & 1) << i;
+    uint32_t right = table >> index & 1;
+    uint64_t v[16], f0 = w[0] >> 1, f1 = w[1] >> 1, f2 = w[2] >> 1, f3 = w[3] >> 1;
+    switch (g[0]) {
+    case 0: v[0] = 0; break;
+    case 1: START(2); STEP(1, f0); break;
+    case 2: START(4); STEP(2, f0); STEP(1, f1); break;
+    case 3: START(8); STEP(4, f0); STEP(2, f1); STEP(1, f2); break;
+    default: START(16); STEP(8, f0); STEP(4, f1); STEP(2, f2); STEP(1, f3); break;
+    }
+    g[7] = 2 * (uint32_t)blend(v[0], U - v[0], g[6]) + right;
+}
+
+static inline uint32_t c_reliability(const uint32_t *a) {
+    uint64_t s = U;
+    const uint32_t *o = a + 8 + 8 * a[1];
+    for (uint32_t k = 0; k < a[2]; k++) s = blend(s, 0, source_word(a, o[k]) >> 1);
+    return (uint32_t)s;
+}
+
+static int c_gate_bad(uint32_t count, uint32_t table, const uint32_t *pins, uint32_t limit) {
+    if (count > 4) return 5;
+    if (count < 5 && table >= 1ull << (1u << count)) return 5;
+    for (uint32_t i = count; i < 4; i++) if (pins[i]) return 5;
+    for (uint32_t i = 0; i < count; i++) if (pins[i] >= limit) return 6;
+    return 0;
+}
+
+__attribute__((noinline)) static int c_judge(const uint32_t *a, size_t len) {
+    if (len < 8) return 13;
+    if (a[0] > 12 || a[1] > 1024 || a[2] < 1 || a[2] > 64) return 14;
+    if (len < 8 + 8 * (size_t)a[1] + a[2]) return 13;
+    if (a[5] || a[6] || a[7] || a[3] >= 1u << a[0] || a[4] > U) return 14;
+    for (uint32_t j = 0; j < a[1]; j++) {
+        const uint32_t *g = a + 8 + 8 * j;
+        if (c_gate_bad(g[0], g[1], g + 2, a[0] + j) || g[6] > U || g[7] > 2 * U + 1) return 14;
+    }
+    for (uint32_t k = 0; k < a[2]; k++) if (a[8 + 8 * a[1] + k] >= a[0] + a[1]) return 14;
+    return 0;
+}
+
+static void c_dependents(uint32_t *a, uint8_t *mark, uint32_t from) {
+    for (uint32_t j = from; j < a[1]; j++) {
+        uint32_t *g = a + 8 + 8 * j;
+        int hit = 0;
+        for (uint32_t i = 0; i < g[0]; i++) hit |= mark[g[2 + i]];
+        if (hit) c_gate(a, j), mark[a[0] + j] = 1;
+    }
+}
+
+__attribute__((noinline)) static uint64_t c_toggle(uint32_t *a, size_t len, uint32_t input) {
+    int no = c_judge(a, len);
+    if (no) return (uint64_t)no << 32;
+    if (input >= a[0]) return 10ull << 32 | input;
+    uint8_t mark[1036] = {0};
+    a[3] ^= 1u << input;
+    mark[input] = 1;
+    c_dependents(a, mark, 0);
+    a[4] = c_reliability(a);
+    return 0;
+}
+
+static int c_units(uint8_t kind, uint64_t field, uint32_t *units) {
+    double x;
+    if (kind == 0) { *units = 0; return field == 0; }
+    if (kind == 1) memcpy(&x, &field, 8);
+    else if (kind == 2) {
+        float p, w;
+        uint32_t lo = (uint32_t)field, hi = (uint32_t)(field >> 32);
+        memcpy(&p, &lo, 4), memcpy(&w, &hi, 4);
+        if (!(p >= 0 && p <= 1 && w >= 0 && w <= 1)) return 0;
+        x = (double)p * (double)w;
+    } else return 0;
+    if (!(x >= 0 && x <= 1)) return 0;
+    *units = (uint32_t)(((uint64_t)(x * 2147483648.0) + 1) / 2);
+    return 1;
+}
+
+__attribute__((noinline)) static uint64_t c_set(uint32_t *a, size_t len, uint32_t gate, uint8_t kind, uint64_t field) {
+    int no = c_judge(a, len);
+    uint32_t units;
+    if (no) return (uint64_t)no << 32;
+    if (gate >= a[1]) return 10ull << 32 | gate;
+    if (!c_units(kind, field, &units)) return 11ull << 32 | gate;
+    uint8_t mark[1036] = {0};
+    a[8 + 8 * gate + 6] = units;
+    c_gate(a, gate);
+    mark[a[0] + gate] = 1;
+    c_dependents(a, mark, gate + 1);
+    a[4] = c_reliability(a);
+    return 0;
+}
+
+static uint32_t get16(const uint8_t *p) { return p[0] | p[1] << 8; }
+static uint32_t get32(const uint8_t *p) { return get16(p) | get16(p + 2) << 16; }
+
+__attribute__((noinline)) static uint64_t c_open(uint32_t *a, size_t len, const uint8_t *im, size_t il, uint32_t *live) {
+    static uint32_t w[WORDS];
+    if (il < 16 || il > 32768 || get32(im + il - 4) != il) return 1ull << 32;
+    const uint8_t *t = im + il - 16;
+    uint32_t n = get16(t), g = get16(t + 2), k = get16(t + 4), back = get32(t + 8);
+    if (get16(t + 6) != 1) return 2ull << 32;
+    if (n > 12 || g > 1024 || k < 1 || k > 64) return 3ull << 32;
+    if (back != 20 * g + 2 * k || back > il - 16) return 4ull << 32;
+    const uint8_t *m = t - back;
+    memset(w, 0, 32);
+    w[0] = n, w[1] = g, w[2] = k;
+    for (uint32_t j = 0; j < g; j++) {
+        const uint8_t *r = m + 20 * j;
+        uint32_t *o = w + 8 + 8 * j;
+        uint64_t field;
+        memcpy(&field, r + 12, 8);
+        o[0] = r[0], o[1] = get16(r + 2);
+        for (int i = 0; i < 4; i++) o[2 + i] = get16(r + 4 + 2 * i);
+        int no = c_gate_bad(o[0], o[1], o + 2, n + j);
+        if (no) return (uint64_t)no << 32 | j;
+        if (!c_units(r[1], field, &o[6])) return 7ull << 32 | j;
+        o[7] = 0;
+    }
+    for (uint32_t i = 0; i < k; i++) if ((w[8 + 8 * g + i] = get16(m + 20 * g + 2 * i)) >= n + g) return 8ull << 32 | i;
+    uint32_t readers[1036] = {0}, count = 0;
+    for (uint32_t i = 0; i < k; i++) readers[w[8 + 8 * g + i]]++;
+    for (uint32_t j = g; j-- > 0;) if (readers[n + j]) for (uint32_t i = 0; i < w[8 + 8 * j]; i++) readers[w[8 + 8 * j + 2 + i]]++;
+    for (uint32_t j = 0; j < g; j++) if (readers[n + j] > 1) return 9ull << 32 | j;
+    if (len < 8 + 8 * (size_t)g + k) return 13ull << 32;
+    memcpy(a, w, 4 * (8 + 8 * (size_t)g + k));
+    for (uint32_t j = 0; j < g; j++) c_gate(a, j), count += readers[n + j] > 0;
+    a[4] = c_reliability(a);
+    *live = count;
+    return 0;
+}
+
+/* every gate for every pattern */
+__attribute__((noinline)) static uint32_t c_average_all(uint32_t *a, size_t len, const uint32_t *weights) {
+    if (c_judge(a, len)) return 0;
+    uint32_t own = a[3];
+    uint64_t sum = 0, total = 0;
+    for (uint32_t q = 0; q < 1u << a[0]; q++) {
+        a[3] = q;
+        for (uint32_t j = 0; j < a[1]; j++) c_gate(a, j);
+        sum += (uint64_t)weights[q] * c_reliability(a), total += weights[q];
+    }
+    a[3] = own;
+    for (uint32_t j = 0; j < a[1]; j++) c_gate(a, j);
+    a[4] = c_reliability(a);
+    return (uint32_t)((2 * sum + total) / (2 * total));
+}
+
+/* Gray-code walk over the dependents of the input that changes */
+__attribute__((noinline)) static uint32_t c_average_gray(uint32_t *a, size_t len, const uint32_t *weights) {
+    if (c_judge(a, len)) return 0;
+    static uint16_t list[12][1024];
+    uint32_t count[12], own = a[3];
+    for (uint32_t i = 0; i < a[0]; i++) {
+        uint8_t mark[1036] = {0};
+        mark[i] = 1, count[i] = 0;
+        for (uint32_t j = 0; j < a[1]; j++) {
+            int hit = 0;
+            for (uint32_t p = 0; p < a[8 + 8 * j]; p++) hit |= mark[a[8 + 8 * j + 2 + p]];
+            if (hit) mark[a[0] + j] = 1, list[i][count[i]++] = j;
+        }
+    }
+    uint64_t sum = 0, total = 0;
+    a[3] = 0;
+    for (uint32_t j = 0; j < a[1]; j++) c_gate(a, j);
+    sum += (uint64_t)weights[0] * c_reliability(a), total += weights[0];
+    for (uint32_t t = 1; t < 1u << a[0]; t++) {
+        uint32_t i = (uint32_t)__builtin_ctz(t);
+        a[3] ^= 1u << i;
+        for (uint32_t k = 0; k < count[i]; k++) c_gate(a, list[i][k]);
+        sum += (uint64_t)weights[a[3]] * c_reliability(a), total += weights[a[3]];
+    }
+    a[3] = own;
+    for (uint32_t j = 0; j < a[1]; j++) c_gate(a, j);
+    a[4] = c_reliability(a);
+    return (uint32_t)((2 * sum + total) / (2 * total));
+}
+
+/* ---- timing: the best of many short runs, taken in turn */
+
+static double now_ns(void) { struct timespec t; clock_gettime(CLOCK_MONOTONIC, &t); return t.tv_sec * 1e9 + t.tv_nsec; }
+#define TIME(best, runs, body) do { double t0 = now_ns(); for (int r_ = 0; r_ < (runs); r_++) { body; } double t_ = (now_ns() - t0) / (runs); if (t_ < best) best = t_; } while (0)
+
+static uint32_t mine[WORDS], theirs[WORDS], weights[4096];
+
+static void same(const char *what) {
+    if (memcmp(mine, theirs, sizeof mine)) { printf("%s: the areas differ\n", what); exit(1); }
+}
+
+int main(void) {
+    const char *names[5] = {"forest2", "forest3", "forest4", "chain", "mostly dead"};
+    for (int q = 0; q < 4096; q++) weights[q] = 1;
+    printf("%-12s %10s %10s %6s | %10s %10s %6s | %10s %10s %6s | %9s %9s %9s %6s\n", "netlist", "open us", "C", "ratio", "toggle us", "C", "ratio", "set us", "C", "ratio",
+           "avg ms", "C all", "C Gray", "ratio");
+    for (int kind = 0; kind < 5; kind++) {
+        make(kind < 3 ? 2 + kind : kind == 3 ? 2 : 3, kind == 3, kind == 4);
+        memset(mine, 0, sizeof mine), memset(theirs, 0, sizeof theirs);
+        uint32_t live = 0, live2 = 0, units = 0, units2 = 0;
+        uint64_t no = bench_open(mine, WORDS, image, image_len, &live);
+        if (no) { printf("%s: refused %llu %llu\n", names[kind], (unsigned long long)(no >> 32), (unsigned long long)(no & 0xffffffff)); return 1; }
+        c_open(theirs, WORDS, image, image_len, &live2);
+        same("open");
+        double o1 = 1e18, o2 = 1e18, t1 = 1e18, t2 = 1e18, s1 = 1e18, s2 = 1e18, a1 = 1e18, a2 = 1e18, a3 = 1e18;
+        double half = 0.3;
+        uint64_t field;
+        memcpy(&field, &half, 8);
+        for (int t = 0; t < 60; t++) {
+            TIME(o1, 4, bench_open(mine, WORDS, image, image_len, &live));
+            TIME(o2, 4, c_open(theirs, WORDS, image, image_len, &live2));
+            TIME(t1, 24, bench_toggle_input(mine, WORDS, r_ % N));
+            TIME(t2, 24, c_toggle(theirs, WORDS, r_ % N));
+            same("toggle");
+            TIME(s1, 24, bench_set_flip(mine, WORDS, 40 * r_, 1, field));
+            TIME(s2, 24, c_set(theirs, WORDS, 40 * r_, 1, field));
+            same("set");
+        }
+        for (int t = 0; t < 4; t++) {
+            TIME(a1, 1, bench_average(mine, WORDS, weights, 4096, &units));
+            TIME(a2, 1, units2 = c_average_all(theirs, WORDS, weights));
+            if (units != units2) { printf("the averages differ\n"); return 1; }
+            TIME(a3, 1, units2 = c_average_gray(theirs, WORDS, weights));
+            if (units != units2) { printf("the averages differ\n"); return 1; }
+            same("average");
+        }
+        double c = a2 < a3 ? a2 : a3;
+        printf("%-12s %10.1f %10.1f %6.2f | %10.2f %10.2f %6.2f | %10.2f %10.2f %6.2f | %9.1f %9.1f %9.1f %6.2f\n", names[kind], o1 / 1e3, o2 / 1e3, o1 / o2, t1 / 1e3, t2 / 1e3,
+               t1 / t2, s1 / 1e3, s2 / 1e3, s1 / s2, a1 / 1e6, a2 / 1e6, a3 / 1e6, a1 / c);
+    }
+    return 0;
+}
