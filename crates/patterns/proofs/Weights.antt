@@ -102,13 +102,12 @@ module _ (n : ℕ) (weights : List ℕ) where
 
   -- ---- weights that are fine
 
-  module _ (fits : n ≤ 12) (e : weightsJudgement n weights ≡ fine) where
+  module _ (e : weightsJudgement n weights ≡ fine) where
     pub fine-fitting : Fitting n weights
     unfolding weightsJudgement
     fine-fitting =
         let rest = second-fine (demand (eqb (length weights) (2 ^ n)) 12 0) _ e in
         record {
-          few = fits;
           one-each = eqb-true (length weights) (2 ^ n) (demanded _ 12 0 (first-fine (demand (eqb (length weights) (2 ^ n)) 12 0) _ e));
           small =
               λ q l.

@@ -12,7 +12,6 @@ use Rattle.patterns.specs.Weights.{largestWeight}
 
 -- one weight for each pattern of n inputs, none too large
 pub record Fitting (n : ℕ) (weights : List ℕ) : Type 0 where
-  pub few : n ≤ 12
   pub one-each : length weights ≡ 2 ^ n
   pub small : (q : ℕ) → q < length weights → getD weights q 0 ≤ largestWeight
 
