@@ -1,15 +1,15 @@
 -- The laws of the walk: bounds of sums, and what storing a pattern and working out the gates keeps. Assumes nothing.
 use Prim.Native.Nat.{ℕ, zero, suc, _+_, _*_, _^_, _≤_, _<_}
-use mathlib.Core.Bool.{Bool, true, false, true≢false}
+use mathlib.Core.Bool.{false, true≢false}
 use mathlib.Core.List.{List}
 use mathlib.Core.Logic.{⊎-elim, by-cases}
 use mathlib.Core.Path.{_≡_, refl, sym, ap, ap₂, subst, _∙_}
-use native.Mathlib.Nat.{eq-or-lt-of-le, le-of-suc-le-suc, mul-le-mul-right, mul-comm, lt-of-lt-of-le}
+use native.Mathlib.Nat.{eq-or-lt-of-le, le-of-suc-le-suc, mul-le-mul-right, mul-comm}
 use native.Mathlib.Numerals.{add-one}
 use native.Mathlib.Decide.{decLt}
 use native.Mathlib.Omega.{arith}
 use lib.Dec.{eqb}
-use lib.ListN.{length, getD, set, length-set}
+use lib.ListN.{length, getD, set}
 use lib.Pow.{pow-mono}
 use lib.Seq.{getD-set-same, getD-set-other, set-getD}
 use borrow.Author.Tests.{eq-eqb}
@@ -19,13 +19,14 @@ use Rattle.netlist.specs.Average.{sumBelow}
 use Rattle.words.specs.Words.{inputs, gates, pattern, reliabilityWord, flip}
 use Rattle.words.specs.Rules.{allZero, Sound}
 use Rattle.words.specs.Work.{workGates, reliabilityNow, workAll}
-use Rattle.words.proofs.Frame.{SameFrame, same-inputs, same-gates, same-sym, same-trans, same-store-pattern, same-work-gates, work-gates-other, work-gates-length, work-reliability-same}
+use Rattle.words.proofs.Frame.{SameFrame, same-inputs, same-gates, same-sym, same-trans, same-store-pattern, same-work-gates, work-gates-other, work-reliability-same}
 use Rattle.words.proofs.Sound.{sound-store-pattern, sound-work-gates, sound-work-all}
 use Rattle.rules.proofs.Every.{zero-part, holds-every}
+use Rattle.fresh.proofs.WorkAll.{fresh-gates}
 use Rattle.fresh.proofs.Unique.{work-all-same}
 use Rattle.calls.specs.Calls.{reliabilityAt, averageOf}
 use Rattle.patterns.specs.Weights.{largestWeight}
-use Rattle.patterns.specs.Walk.{Fitting, weightedTo, SameWork}
+use Rattle.patterns.specs.Walk.{Fitting, weightedTo, workedAt, Current, SameWork}
 
 -- ---- sums
 
@@ -50,6 +51,10 @@ pub sum-scaled : (F G : ℕ → ℕ) (u k : ℕ) → ((q : ℕ) → q < k → F 
 sum-scaled F G u zero h = omega arith
 sum-scaled F G u (suc k) h = omega (arith, sum-scaled F G u k (λ q l. h q (omega arith)), h k (omega arith))
 
+pub sum-same : (F G : ℕ → ℕ) (k : ℕ) → ((q : ℕ) → q < k → F q ≡ G q) → sumBelow k F ≡ sumBelow k G
+sum-same F G zero h = refl
+sum-same F G (suc k) h = ap₂ _+_ (sum-same F G k (λ q l. h q (omega arith))) (h k (omega arith))
+
 -- weights that are not all zero have a sum
 pub some-weight : (weights : List ℕ) → allZero weights ≡ false → 0 < sumBelow (length weights) (λ q. getD weights q 0)
 some-weight weights e =
@@ -66,15 +71,17 @@ some-weight weights e =
 
 -- ---- areas
 
--- an area with the netlist and the flips of another works out to the same under each pattern
-pub same-work : (ws vs : List ℕ) → Sound ws → Sound vs → SameFrame ws vs → ((j : ℕ) → j < gates ws → flip vs j ≡ flip ws j) → SameWork ws vs
-same-work ws vs sound-ws sound-vs same flips =
+-- a current area with the netlist and the flips of another works out to the same under each pattern
+pub same-work : (ws vs : List ℕ) → Sound ws → Sound vs → Current vs → SameFrame ws vs → ((j : ℕ) → j < gates ws → flip vs j ≡ flip ws j) → SameWork ws vs
+same-work ws vs sound-ws sound-vs current same flips =
     let n = same-inputs ws vs same in
     let kept : (us : List ℕ) (q j : ℕ) → flip (set us 3 q) j ≡ flip us j = λ us q j. getD-set-other us 3 (8 + 8 * j + 6) q 0 (λ e. omega arith) in
     record {
       sound = sound-vs;
+      current = current;
       size = same .size;
       input-count = n;
+      gate-count = same-gates ws vs same;
       work =
           λ q l.
           work-all-same (set ws 3 q) (set vs 3 q) (sound-store-pattern ws q sound-ws l) (sound-store-pattern vs q sound-vs (rw n l))
@@ -84,15 +91,18 @@ same-work ws vs sound-ws sound-vs same flips =
           (λ j inside. kept vs q j ∙ flips j (omega (arith, same-gates ws (set ws 3 q) (same-store-pattern ws q))) ∙ sym (kept ws q j));
     }
 
-pub same-work-refl : (ws : List ℕ) → Sound ws → SameWork ws ws
-same-work-refl ws sound = record { sound = sound; size = refl; input-count = refl; work = λ q l. refl }
+pub same-work-refl : (ws : List ℕ) → Sound ws → Current ws → SameWork ws ws
+same-work-refl ws sound current =
+    record { sound = sound; current = current; size = refl; input-count = refl; gate-count = refl; work = λ q l. refl }
 
 pub same-work-trans : (ws vs us : List ℕ) → SameWork ws vs → SameWork vs us → SameWork ws us
 same-work-trans ws vs us a b =
     record {
       sound = b .sound;
+      current = b .current;
       size = b .size ∙ a .size;
       input-count = b .input-count ∙ a .input-count;
+      gate-count = b .gate-count ∙ a .gate-count;
       work = λ q l. b .work q (rw (a .input-count) l) ∙ a .work q l;
     }
 
@@ -111,27 +121,40 @@ put-back ws vs q sound same e =
     ap (λ (p : ℕ). workAll (set vs 3 p)) e ∙ same .work (pattern ws) (sound .pattern-fits) ∙ ap workAll (set-getD ws 3 0)
 
 module _ (ws : List ℕ) (q : ℕ) (sound : Sound ws) (l : q < 2 ^ inputs ws) where
-  -- every gate worked out for pattern q
-  abbrev pub workedAt : List ℕ
-  workedAt = workGates (set ws 3 q) 0 (gates (set ws 3 q))
-
   sound-stored : Sound (set ws 3 q)
   sound-stored = sound-store-pattern ws q sound l
 
-  pub sound-at : Sound workedAt
+  pub sound-at : Sound (workedAt ws q)
   sound-at = sound-work-gates (set ws 3 q) 0 (gates (set ws 3 q)) sound-stored (omega arith)
 
-  pub same-at : SameWork ws workedAt
+  same-frame-at : SameFrame (set ws 3 q) (workedAt ws q)
+  same-frame-at = same-work-gates (set ws 3 q) 0 (gates (set ws 3 q)) (omega arith)
+
+  current-at : Current (workedAt ws q)
+  current-at =
+      record {
+        figures =
+            λ j inside.
+            fresh-gates (set ws 3 q) 0 (gates (set ws 3 q)) sound-stored (omega arith) (λ i none. absurd (omega arith)) j
+            (omega (arith, same-gates (set ws 3 q) (workedAt ws q) same-frame-at));
+      }
+
+  pub same-at : SameWork ws (workedAt ws q)
   same-at =
-      same-work ws workedAt sound sound-at
-      (same-trans ws (set ws 3 q) workedAt (same-store-pattern ws q) (same-work-gates (set ws 3 q) 0 (gates (set ws 3 q)) (omega arith)))
+      same-work ws (workedAt ws q) sound sound-at current-at
+      (same-trans ws (set ws 3 q) (workedAt ws q) (same-store-pattern ws q) same-frame-at)
       (λ j inside.
       work-gates-other (set ws 3 q) 0 (gates (set ws 3 q)) (8 + 8 * j + 6) (λ k from to e. omega arith)
       ∙ getD-set-other ws 3 (8 + 8 * j + 6) q 0 (λ e. omega arith))
 
-  pub reliability-is : reliabilityNow workedAt ≡ reliabilityAt ws q
+  pub reliability-is : reliabilityNow (workedAt ws q) ≡ reliabilityAt ws q
   unfolding reliabilityAt workAll
-  reliability-is = sym (work-reliability-same workedAt (omega (arith, sound-at .long)))
+  reliability-is = sym (work-reliability-same (workedAt ws q) (omega (arith, sound-at .long)))
+
+-- every gate worked out for the area's own pattern
+pub same-own : (ws : List ℕ) → Sound ws → SameWork ws (workGates ws 0 (gates ws))
+same-own ws sound =
+    subst (λ (us : List ℕ). SameWork ws (workGates us 0 (gates us))) (set-getD ws 3 0) (same-at ws (pattern ws) sound (sound .pattern-fits))
 
 -- ---- the weighted sum
 
@@ -146,6 +169,13 @@ module _ (ws weights : List ℕ) (sound : Sound ws) (fit : Fitting (inputs ws) w
   weighted-more vs k s x l same e f =
       sum-more (λ q. getD weights q 0 * reliabilityAt ws q) k s x e
       (f ∙ ap (λ (r : ℕ). getD weights k 0 * r) (same-reliability ws vs k same (omega (arith, fit .one-each))))
+
+  -- an area that works out to the same has the same sum
+  pub weighted-same : (vs : List ℕ) (k : ℕ) → k ≤ length weights → SameWork ws vs → weightedTo vs weights k ≡ weightedTo ws weights k
+  unfolding weightedTo
+  weighted-same vs k l same =
+      sum-same (λ q. getD weights q 0 * reliabilityAt vs q) (λ q. getD weights q 0 * reliabilityAt ws q) k
+      (λ q less. ap (λ (r : ℕ). getD weights q 0 * r) (same-reliability ws vs q same (omega (arith, fit .one-each))))
 
   -- each term is at most weight × U
   pub weighted-fits : (k : ℕ) → k ≤ length weights → weightedTo ws weights k ≤ unitsInOne * sumBelow k (λ q. getD weights q 0)

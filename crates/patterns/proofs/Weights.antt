@@ -1,7 +1,7 @@
 -- The laws of refusal 12: each way out of the test, and what weights that are fine keep. Assumes nothing.
-use Prim.Native.Nat.{ℕ, zero, suc, _+_, _*_, _%_, _^_, _≤_, _<_}
-use mathlib.Core.Bool.{Bool, true, false, not, true≢false}
-use mathlib.Core.List.{List, [], _∷_}
+use Prim.Native.Nat.{ℕ, zero, suc, _*_, _%_, _^_, _≤_, _<_}
+use mathlib.Core.Bool.{Bool, true, false, not}
+use mathlib.Core.List.{List}
 use mathlib.Core.Logic.{⊎-elim}
 use mathlib.Core.Path.{_≡_, refl, sym, ap, _∙_}
 use native.Mathlib.Nat.{eq-or-lt-of-le, le-of-suc-le-suc, one-mul, mod-eq-of-lt}
@@ -9,8 +9,7 @@ use native.Mathlib.Omega.{arith}
 use lib.Dec.{leb, eqb}
 use lib.ListN.{length, getD}
 use lib.Pow.{pow-mono}
-use borrow.Author.Tests.{eq-eqb, ne-eqb, le-leb, lt-leb, leb-true, eqb-true, eqb-false, not-true}
-use Rattle.netlist.specs.Average.{sumBelow}
+use borrow.Author.Tests.{eq-eqb, ne-eqb, le-leb, lt-leb, leb-true, eqb-true, not-true}
 use Rattle.words.specs.Rules.{allZero}
 use Rattle.image.specs.Judgement.{Judgement, fine, refusal, demand, otherwise, lowest}
 use Rattle.calls.specs.Judged.{weightsJudgement}
@@ -103,13 +102,12 @@ module _ (n : ℕ) (weights : List ℕ) where
 
   -- ---- weights that are fine
 
-  module _ (fits : n ≤ 12) (e : weightsJudgement n weights ≡ fine) where
+  module _ (e : weightsJudgement n weights ≡ fine) where
     pub fine-fitting : Fitting n weights
     unfolding weightsJudgement
     fine-fitting =
         let rest = second-fine (demand (eqb (length weights) (2 ^ n)) 12 0) _ e in
         record {
-          few = fits;
           one-each = eqb-true (length weights) (2 ^ n) (demanded _ 12 0 (first-fine (demand (eqb (length weights) (2 ^ n)) 12 0) _ e));
           small =
               λ q l.

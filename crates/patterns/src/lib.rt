@@ -1,16 +1,16 @@
 // The walk over all patterns of the call "average", on an area that keeps rule 14, and the test of the weights, refusal 12.
 ghost use mathlib.Core.Path.{_≡_};
-ghost use Prim.Native.Nat.{ℕ, _*_, _^_, _<_, _≤_};
+ghost use Prim.Native.Nat.{ℕ, _+_, _*_, _/_, _^_, _<_, _≤_};
 ghost use lib.ListN.{length, getD};
 ghost use Rattle.netlist.specs.Average.{sumBelow};
-ghost use Rattle.words.specs.Words.{inputs};
+ghost use Rattle.words.specs.Words.{inputs, gates};
 ghost use Rattle.words.specs.Rules.{allZero, Sound};
-ghost use Rattle.words.specs.Work.{workAll};
+ghost use Rattle.words.specs.Work.{workGate, workAll};
 ghost use Rattle.image.specs.Judgement.{fine};
 ghost use Rattle.calls.specs.Judged.{weightsJudgement};
 ghost use Rattle.calls.specs.Calls.{reliabilityAt, averageOf};
 ghost use Rattle.patterns.specs.Weights.{weightsAnswer, FirstHeavy};
-ghost use Rattle.patterns.specs.Walk.{Fitting, weightedTo, SameWork};
+ghost use Rattle.patterns.specs.Walk.{Fitting, weightedTo, workedAt, Current, SameWork, Lowest};
 
 const LARGEST_WEIGHT: u32 = 1_048_575;
 
@@ -78,21 +78,95 @@ fn total_weight(weights: &[u32]) -> u64
     total
 }
 
-// The reliability under a pattern. It is stored in the area, and every gate is worked out for it.
-fn reliability_at(area: &mut [u32], pattern: u32) -> u32
-    requires { ⌜ Sound (now area) ⌝ }
-    requires { ⌜ pattern < 2 ^ inputs (now area) ⌝ }
-    ensures { λ r. ⌜ r ≡ reliabilityAt (now (area .entry)) pattern ⌝ }
-    ensures { λ _. ⌜ SameWork (now (area .entry)) (now (area .exit)) ⌝ }
+fn lower(a: u32, b: u32) -> u32
+    ensures { λ r. ⌜ (r ≤ a) × (r ≤ b) ⌝ }
 {
+    if a < b { a } else { b }
+}
+
+// The lowest input that the first `count` pins of the gate whose words start at `base` depend on; 12 if there is none.
+fn pins_lowest(area: &[u32], lows: &[u32; 1036], base: usize, count: usize) -> u32
+    requires { ⌜ (count ≤ 4) × (base + 6 ≤ length (now area)) ⌝ }
+    requires { ⌜ ((i : ℕ) → i < count → getD (now area) (base + 2 + i) 0 < 1036) ⌝ }
+    ensures { λ r. ⌜ (r ≤ 12) × ((i : ℕ) → i < count → r ≤ getD (now (lows .entry)) (getD (now (area .entry)) (base + 2 + i) 0) 0) ⌝ }
+{
+    let mut low = 12;
+    let mut i = 0;
+    while i < count {
+        low = lower(low, lows[area[base + 2 + i] as usize]);
+        i += 1;
+    }
+    low
+}
+
+// An input depends on itself.
+fn input_lows() -> [u32; 1036]
+    ensures { λ r. ⌜ ((i : ℕ) → i < 12 → getD r i 0 ≡ i) ⌝ }
+{
+    let mut lows = [12u32; 1036];
+    let mut i = 0;
+    while i < 12 {
+        lows[i] = i as u32;
+        i += 1;
+    }
+    lows
+}
+
+// The lowest input that each source depends on: 12 inputs and 1,024 gates at the most.
+fn lowest_inputs(area: &[u32]) -> [u32; 1036]
+    requires { ⌜ Sound (now area) ⌝ }
+    ensures { λ r. ⌜ Lowest (now (area .entry)) r (inputs (now (area .entry)) + gates (now (area .entry))) ⌝ }
+{
+    let n = area[0] as usize;
+    let count = area[1] as usize;
+    let mut lows = input_lows();
+    let mut gate = 0;
+    while gate < count {
+        let base = 8 + 8 * gate;
+        let low = pins_lowest(area, &lows, base, area[base] as usize);
+        lows[n + gate] = low;
+        gate += 1;
+    }
+    lows
+}
+
+// A gate worked out, unless the two patterns agree from input `low` on, the lowest that it depends on: then its figure stays.
+fn work_if_changed(area: &mut [u32], gate: usize, low: u32, old: u32, new: u32)
+    requires { ⌜ Sound (now area) ⌝ }
+    requires { ⌜ (gate < gates (now area)) × (low ≤ 12) ⌝ }
+    requires { ⌜ (old / 2 ^ low ≡ new / 2 ^ low → workGate (now area) gate ≡ now area) ⌝ }
+    ensures { λ _. ⌜ now (area .exit) ≡ workGate (now (area .entry)) gate ⌝ }
+{
+    if old >> low == new >> low {
+        return;
+    }
+    words::work_gate(area, gate);
+}
+
+// A pattern stored, and the gates worked out that it may change. In rising order most patterns change a few low inputs alone.
+fn change_pattern(area: &mut [u32], lows: &[u32; 1036], pattern: u32)
+    requires { ⌜ Sound (now area) ⌝ }
+    requires { ⌜ Current (now area) ⌝ }
+    requires { ⌜ Lowest (now area) (now lows) (inputs (now area) + gates (now area)) ⌝ }
+    requires { ⌜ pattern < 2 ^ inputs (now area) ⌝ }
+    ensures { λ _. ⌜ now (area .exit) ≡ workedAt (now (area .entry)) pattern ⌝ }
+{
+    let n = area[0] as usize;
+    let count = area[1] as usize;
+    let old = area[3];
     area[3] = pattern;
-    words::work_gates(area);
-    words::reliability_now(area)
+    let mut gate = 0;
+    while gate < count {
+        work_if_changed(area, gate, lows[n + gate], old, pattern);
+        gate += 1;
+    }
 }
 
 // What a pattern adds to the weighted sum. One of weight 0 adds nothing, so nothing is worked out for it.
-fn weighted(area: &mut [u32], pattern: u32, weight: u32) -> u64
+fn weighted(area: &mut [u32], lows: &[u32; 1036], pattern: u32, weight: u32) -> u64
     requires { ⌜ Sound (now area) ⌝ }
+    requires { ⌜ Current (now area) ⌝ }
+    requires { ⌜ Lowest (now area) (now lows) (inputs (now area) + gates (now area)) ⌝ }
     requires { ⌜ pattern < 2 ^ inputs (now area) ⌝ }
     ensures { λ r. ⌜ r ≡ weight * reliabilityAt (now (area .entry)) pattern ⌝ }
     ensures { λ _. ⌜ SameWork (now (area .entry)) (now (area .exit)) ⌝ }
@@ -100,7 +174,26 @@ fn weighted(area: &mut [u32], pattern: u32, weight: u32) -> u64
     if weight == 0 {
         return 0;
     }
-    weight as u64 * reliability_at(area, pattern) as u64
+    change_pattern(area, lows, pattern);
+    weight as u64 * words::reliability_now(area) as u64
+}
+
+// The weighted sum over all patterns in rising order, from an area whose figures are those of its own pattern.
+fn sum_over(area: &mut [u32], lows: &[u32; 1036], weights: &[u32]) -> u64
+    requires { ⌜ Sound (now area) ⌝ }
+    requires { ⌜ Current (now area) ⌝ }
+    requires { ⌜ Lowest (now area) (now lows) (inputs (now area) + gates (now area)) ⌝ }
+    requires { ⌜ Fitting (inputs (now area)) (now weights) ⌝ }
+    ensures { λ r. ⌜ r ≡ weightedTo (now (area .entry)) (now (weights .entry)) (length (now (weights .entry))) ⌝ }
+    ensures { λ _. ⌜ SameWork (now (area .entry)) (now (area .exit)) ⌝ }
+{
+    let mut sum = 0;
+    let mut q = 0;
+    while q < weights.len() {
+        sum += weighted(area, lows, q as u32, weights[q]);
+        q += 1;
+    }
+    sum
 }
 
 fn weighted_sum(area: &mut [u32], weights: &[u32]) -> u64
@@ -109,13 +202,9 @@ fn weighted_sum(area: &mut [u32], weights: &[u32]) -> u64
     ensures { λ r. ⌜ r ≡ weightedTo (now (area .entry)) (now (weights .entry)) (length (now (weights .entry))) ⌝ }
     ensures { λ _. ⌜ SameWork (now (area .entry)) (now (area .exit)) ⌝ }
 {
-    let mut sum = 0;
-    let mut q = 0;
-    while q < weights.len() {
-        sum += weighted(area, q as u32, weights[q]);
-        q += 1;
-    }
-    sum
+    words::work_gates(area);
+    let lows = lowest_inputs(area);
+    sum_over(area, &lows, weights)
 }
 
 // The weighted average of the reliability over all patterns. The area's own pattern is put back, and its figures are worked out afresh.

@@ -1,5 +1,5 @@
 -- `patterns::average` meets its contract. Assumes nothing.
-use Prim.Native.Nat.{ℕ, _+_, _*_, _^_, _≤_, _<_}
+use Prim.Native.Nat.{ℕ, _*_, _≤_, _<_}
 use mathlib.Core.List.{List}
 use mathlib.Core.Path.{_≡_, refl, sym, ap, ap₂, _∙_}
 use native.Mathlib.Omega.{arith}
@@ -25,13 +25,13 @@ abbrev weights : tie.Start → List ℕ
 weights s = s .args .weights .now
 
 fit : (s : tie.Start) → Fitting (inputs (area s)) (weights s)
-fit s = fine-fitting (inputs (area s)) (weights s) (s .pre .0 .inputs-fit) (s .pre .1)
+fit s = fine-fitting (inputs (area s)) (weights s) (s .pre .1)
 
 abbrev total : tie.Start → ℕ
 total s = sumBelow (length (weights s)) (λ q. getD (weights s) q 0)
 
 some : (s : tie.Start) → 0 < total s
-some s = some-weight (weights s) (fine-counts (inputs (area s)) (weights s) (s .pre .0 .inputs-fit) (s .pre .1))
+some s = some-weight (weights s) (fine-counts (inputs (area s)) (weights s) (s .pre .1))
 
 -- the answer, and the words left
 answer : (c : tie.After-rounded) → c .rounded .result ≡ roundDiv (weightedTo (area (c .before .before .before .before .before .before .before .before .before .before .before .before .before)) (weights (c .before .before .before .before .before .before .before .before .before .before .before .before .before)) (length (weights (c .before .before .before .before .before .before .before .before .before .before .before .before .before)))) (total (c .before .before .before .before .before .before .before .before .before .before .before .before .before))

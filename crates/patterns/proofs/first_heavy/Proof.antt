@@ -1,7 +1,7 @@
 -- `patterns::first_heavy` meets its contract: every weight passed is small. Assumes nothing.
 use Prim.Native.Nat.{ℕ, _-_, _≤_, _<_}
 use native.Mathlib.Omega.{arith}
-use borrow.Author.Count.{below-none, below-more}
+use borrow.Author.Count.{below-more}
 use borrow.Author.Needs.{needs}
 use lib.ListN.{length, getD}
 use Rattle.patterns.specs.Weights.{largestWeight}

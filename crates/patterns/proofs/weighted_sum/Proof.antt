@@ -1,101 +1,50 @@
--- `patterns::weighted_sum` meets its contract: the area keeps what it works out to under each pattern. Assumes nothing.
-use Prim.Native.Nat.{ℕ, _+_, _-_, _*_, _^_, _≤_, _<_}
-use mathlib.Core.Path.{_≡_, refl, sym, ap, _∙_}
+-- `patterns::weighted_sum` meets its contract. Assumes nothing.
+use Prim.Native.Nat.{ℕ}
+use mathlib.Core.List.{List}
+use mathlib.Core.Path.{_≡_, sym, subst, _∙_}
 use native.Mathlib.Omega.{arith}
 use borrow.Author.Needs.{needs}
-use lib.ListN.{length, getD}
-use Rattle.words.specs.Words.{inputs}
-use Rattle.patterns.specs.Walk.{weightedTo, SameWork}
-use Rattle.patterns.proofs.Walk.{length-small, weighted-more, weighted-fits, total-fits, same-work-refl, same-work-trans}
+use lib.ListN.{length}
+use Rattle.words.specs.Words.{gates}
+use Rattle.words.specs.Work.{workGates}
+use Rattle.patterns.specs.Walk.{SameWork}
+use Rattle.patterns.proofs.Walk.{same-own, same-work-trans, weighted-same}
 use Rattle.patterns.proofs.weighted_sum.Statement.{statement}
 use Rattle.patterns.proofs.weighted_sum.Tie as tie
 
-abbrev Inv-loop : tie.InvT-loop
-Inv-loop area₀ weights sum₀ q₀ area sum q =
-    (q ≤ length weights) × (sum ≡ weightedTo area₀ weights q) × SameWork area₀ area
+-- every gate worked out before the walk
+start-work : (s : tie.Start) (vs : List ℕ) → vs ≡ workGates (s .args .area .now) 0 (gates (s .args .area .now)) → SameWork (s .args .area .now) vs
+start-work s vs e = subst (SameWork (s .args .area .now)) (sym e) (same-own (s .args .area .now) (s .pre .0))
 
-abbrev μ-loop : tie.MeasureT-loop
-μ-loop area₀ weights sum₀ q₀ area sum q = length weights - q
+work-gates-requires : tie.Need-work-gates-requires
+work-gates-requires c κs = search needs
 
-loop-holds : tie.Need-loop-holds Inv-loop μ-loop
-unfolding weightedTo
-loop-holds c =
-    let s = c .before .before in
-    (omega arith, refl, same-work-refl (s .args .area .now) (s .pre .0))
+lowest-inputs-requires : tie.Need-lowest-inputs-requires
+lowest-inputs-requires c κs = start-work (c .before .before .before .before .before .before .before) _ (c .before .before .before .work-gates .ensures) .sound
 
-cast-weighted : tie.Need-cast-weighted Inv-loop μ-loop
-cast-weighted c =
-    let s = c .before .before .before .before .before in
-    omega (arith, length-small (s .args .area .now) (s .args .weights .now) (s .pre .0) (s .pre .1))
+sum-over-requires : tie.Need-sum-over-requires
+sum-over-requires c κs =
+    let s = c .before .before .before .before .before .before .before .before .before .before in
+    let vs = c .before .before .before .before .before .before .work-gates .last .0 in
+    let same = start-work s vs (c .before .before .before .before .before .before .work-gates .ensures) in
+    (same .sound, (same .current, (c .before .before .lowest-inputs .ensures, rw (same .input-count) (s .pre .1))))
 
-mul-weighted : tie.Need-mul-weighted Inv-loop μ-loop
-mul-weighted c = search needs
+same-length : tie.Need-same-length
+same-length c = search needs
 
-shared-slice-read-weighted : tie.Need-shared-slice-read-weighted Inv-loop μ-loop
-shared-slice-read-weighted c = search needs
-
-weighted-requires : tie.Need-weighted-requires Inv-loop μ-loop
-weighted-requires c κs =
-    let s = c .before .before .before .before .before .before in
-    let l = c .before .before .before .loop in
-    let below : l .q < 2 ^ inputs (s .args .area .now) = omega (arith, s .pre .1 .one-each) in
-    (l .inv .2 .sound, rw (l .inv .2 .input-count) below)
-
-add-sum : tie.Need-add-sum Inv-loop μ-loop
-add-sum c =
-    let s = c .before .before .before .before .before .before .before .before .before in
-    let l = c .before .before .before .before .before .before .loop in
-    let ws = s .args .area .now in
-    let weights = s .args .weights .now in
-    omega (
-      arith,
-      weighted-more ws weights (s .pre .0) (s .pre .1) (l .area) (l .q) (l .sum) (c .before .before .weighted .result) (omega arith) (l .inv .2) (l .inv .1) (c .before .before .weighted .ensures .0),
-      weighted-fits ws weights (s .pre .0) (s .pre .1) (l .q + 1) (omega arith),
-      total-fits ws weights (s .pre .0) (s .pre .1) (l .q + 1) (omega arith),
-    )
-
-add-q : tie.Need-add-q Inv-loop μ-loop
-add-q c = search needs
-
-loop-less : tie.Need-loop-less Inv-loop μ-loop
-loop-less c = search needs
-
-loop-again : tie.Need-loop-again Inv-loop μ-loop
-loop-again c =
-    let s = c .before .before .before .before .before .before .before .before .before in
-    let l = c .before .before .before .before .before .before .loop in
-    let ws = s .args .area .now in
-    let weights = s .args .weights .now in
-    let e = c .before .before .weighted .ensures in (
-      omega arith,
-      weighted-more ws weights (s .pre .0) (s .pre .1) (l .area) (l .q) (l .sum) (c .before .before .weighted .result) (omega arith) (l .inv .2) (l .inv .1) (e .0),
-      same-work-trans ws (l .area) (c .before .before .weighted .last .0) (l .inv .2) (e .1),
-    )
-
-same-length : tie.Need-same-length Inv-loop μ-loop
-same-length c = c .before .loop .inv .2 .size
-
-returns : tie.Need-returns Inv-loop μ-loop
+returns : tie.Need-returns
 returns c =
-    let s = c .before .before .before .before in
-    let l = c .before .loop in
-    let end : l .q ≡ length (s .args .weights .now) = omega arith in
-    (l .inv .1 ∙ ap (weightedTo (s .args .area .now) (s .args .weights .now)) end, l .inv .2)
+    let s = c .before .before .before .before .before .before .before .before .before .before .before .before .before in
+    let ws = s .args .area .now in
+    let weights = s .args .weights .now in
+    let vs = c .before .before .before .before .before .before .before .before .before .work-gates .last .0 in
+    let same = start-work s vs (c .before .before .before .before .before .before .before .before .before .work-gates .ensures) in
+    let e = c .before .before .sum-over .ensures in (
+      e .0 ∙ weighted-same ws weights (s .pre .0) (s .pre .1) vs (length weights) (omega arith) same,
+      same-work-trans ws vs (c .before .before .sum-over .last .0) same (e .1),
+    )
 
 pub weighted-sum-spec : {M : Type 1} → statement M
 weighted-sum-spec =
     tie.close
-    (tie.spec
-    Inv-loop
-    μ-loop
-    loop-holds
-    cast-weighted
-    mul-weighted
-    shared-slice-read-weighted
-    weighted-requires
-    add-sum
-    add-q
-    loop-less
-    loop-again
-    same-length
-    returns)
+    (tie.spec work-gates-requires lowest-inputs-requires sum-over-requires same-length returns)
