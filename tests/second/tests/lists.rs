@@ -12,7 +12,7 @@ use second::model::{self, Counts};
 use second::random::{seed, Random};
 
 const SIZE: Size = Size { inputs: 3, gates: 10, outputs: 4 };
-const LISTS: usize = 1_500;
+const LISTS: usize = 3_000;
 const CALLS_IN_A_LIST: usize = 30;
 
 /// Room for the largest netlist of these lists, and for some words past it.
