@@ -1,0 +1,57 @@
+-- `sheet::print_patterns` is safe and ends: the pattern rises to the patterns' number. Assumes nothing.
+use Prim.Native.Nat.{_-_, _≤_}
+use mathlib.Core.Path.{_≡_, refl, _∙_}
+use native.Mathlib.Omega.{arith}
+use borrow.Author.Needs.{needs}
+use lib.ListN.{length}
+use Rattle.sheet.proofs.print_patterns.Statement.{statement}
+use Rattle.sheet.proofs.print_patterns.Tie as tie
+
+abbrev Inv-loop : tie.InvT-loop
+Inv-loop area₀ inputs count q₀ area q = (q ≤ count) × (length area ≡ length area₀)
+
+abbrev μ-loop : tie.MeasureT-loop
+μ-loop area₀ inputs count q₀ area q = count - q
+
+pattern-count-requires : tie.Need-pattern-count-requires Inv-loop μ-loop
+pattern-count-requires c κs = search needs
+
+loop-holds : tie.Need-loop-holds Inv-loop μ-loop
+loop-holds c = (omega arith, refl)
+
+print-reliability-requires : tie.Need-print-reliability-requires Inv-loop μ-loop
+print-reliability-requires c κs = search needs
+
+next-pattern-requires : tie.Need-next-pattern-requires Inv-loop μ-loop
+next-pattern-requires c κs = search needs
+
+add-q : tie.Need-add-q Inv-loop μ-loop
+add-q c = omega (arith, c .before .before .before .before .before .before .before .before .pattern-count .ensures)
+
+loop-less : tie.Need-loop-less Inv-loop μ-loop
+loop-less c = omega arith
+
+loop-again : tie.Need-loop-again Inv-loop μ-loop
+loop-again c = (omega arith, c .before .before .next-pattern .kept .0 ∙ c .before .before .before .before .before .before .before .loop .inv .1)
+
+same-length : tie.Need-same-length Inv-loop μ-loop
+same-length c = c .before .loop .inv .1
+
+returns : tie.Need-returns Inv-loop μ-loop
+returns c = search needs
+
+pub print-patterns-spec : {M : Type 1} → statement M
+print-patterns-spec =
+    tie.close
+    (tie.spec
+    Inv-loop
+    μ-loop
+    pattern-count-requires
+    loop-holds
+    print-reliability-requires
+    next-pattern-requires
+    add-q
+    loop-less
+    loop-again
+    same-length
+    returns)
