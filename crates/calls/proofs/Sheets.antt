@@ -31,3 +31,24 @@ pub live : map (λ (s : Sheet). openLive (s .image)) sheets ≡ map (λ (s : She
 unfolding openLive liveGates liveReads imageWords middleWords middle
 live = refl
 
+-- the reliability of each that is not refused, at every pattern
+pub reliabilities : (ws : List ℕ)
+    → map (λ (s : Sheet). leftBy (s .judged) (atPatterns (openWords (s .image) ws)) []) sheets ≡ map (λ (s : Sheet). s .units) sheets
+unfolding
+    openWords reliabilityAt workAll workReliability reliabilityNow workGate gateFigure gateWord gateFailure gateStep startValues difference answer
+    outputStep blend roundDiv toUnits imageWords middleWords middle recordUnits recordChance flipChance flipOf chanceOf wholeChance chanceScale ofBits
+reliabilities ws = refl
+
+-- the inverter's failure after the AND
+pub inverter-failure : (ws : List ℕ) → figure (openWords andInverterImage ws) 1 / 2 ≡ 102_005_473
+unfolding
+    openWords workAll workReliability reliabilityNow workGate gateFigure gateWord gateFailure gateStep startValues difference answer
+    outputStep blend roundDiv toUnits imageWords middleWords middle recordUnits recordChance flipChance flipOf chanceOf wholeChance chanceScale ofBits
+inverter-failure ws = refl
+
+-- the printed sheet's average, all weights 1
+pub printed-average : (ws : List ℕ) → averageOf (openWords printedImage ws) (replicate 4 1) ≡ 671_088_640
+unfolding
+    averageOf openWords reliabilityAt workAll workReliability reliabilityNow workGate gateFigure gateWord gateFailure gateStep startValues difference answer
+    outputStep blend roundDiv toUnits imageWords middleWords middle recordUnits recordChance flipChance flipOf chanceOf wholeChance chanceScale ofBits
+printed-average ws = refl
