@@ -1,0 +1,52 @@
+-- `bench_c::bench_average` meets its contract. Assumes nothing.
+use mathlib.Core.Path.{_≡_, refl, sym, ap, _∙_}
+use Rattle.calls.specs.Judged.{averageJudgement}
+use Rattle.bench_c.proofs.Answered.{average-done, average-refused}
+use borrow.Author.Needs.{needs}
+use Rattle.bench_c.proofs.bench_average.Statement.{statement}
+use Rattle.bench_c.proofs.bench_average.Tie as tie
+
+average-requires : tie.Need-average-requires
+average-requires c κs = search needs
+
+enum-known-answer : tie.Need-enum-known-answer
+enum-known-answer c = search needs
+
+enum-known-answer-2 : tie.Need-enum-known-answer-2
+enum-known-answer-2 c = search needs
+
+refused-requires : tie.Need-refused-requires
+refused-requires c κs = search needs
+
+same-length : tie.Need-same-length
+same-length c = search needs
+
+returns : tie.Need-returns
+returns c =
+    let a = c .before .before .before .before .before .before .before .before .before .args in
+    let t = c .before .before .before .before .before .average in
+    let e = average-done (averageJudgement (a .area .now) (a .weights .now)) _ _ (sym (t .ensures .0) ∙ c .before .answer .given .1) in
+    (rw (e .0) refl, (rw (e .0) (e .1), t .ensures .1))
+
+same-length-2 : tie.Need-same-length-2
+same-length-2 c = search needs
+
+returns-2 : tie.Need-returns-2
+returns-2 c =
+    let a = c .before .before .before .before .before .before .before .before .before .before .args in
+    let t = c .before .before .before .before .before .before .average in
+    let e = average-refused (averageJudgement (a .area .now) (a .weights .now)) _ _ _ (sym (t .ensures .0) ∙ c .before .before .answer2 .given .1) in
+    (rw e (c .refused .ensures), (rw e refl, t .ensures .1))
+
+pub bench-average-spec : {M : Type 1} → statement M
+bench-average-spec =
+    tie.close
+    (tie.spec
+    average-requires
+    enum-known-answer
+    enum-known-answer-2
+    refused-requires
+    same-length
+    returns
+    same-length-2
+    returns-2)

@@ -1,0 +1,53 @@
+-- `bench_c::bench_open` meets its contract. Assumes nothing.
+use mathlib.Core.Path.{_≡_, refl, sym, ap, _∙_}
+use lib.ListN.{length}
+use Rattle.calls.specs.Judged.{openJudgement}
+use Rattle.bench_c.proofs.Answered.{open-done, open-refused}
+use borrow.Author.Needs.{needs}
+use Rattle.bench_c.proofs.bench_open.Statement.{statement}
+use Rattle.bench_c.proofs.bench_open.Tie as tie
+
+open-requires : tie.Need-open-requires
+open-requires c κs = search needs
+
+enum-known-answer : tie.Need-enum-known-answer
+enum-known-answer c = search needs
+
+enum-known-answer-2 : tie.Need-enum-known-answer-2
+enum-known-answer-2 c = search needs
+
+refused-requires : tie.Need-refused-requires
+refused-requires c κs = search needs
+
+same-length : tie.Need-same-length
+same-length c = search needs
+
+returns : tie.Need-returns
+returns c =
+    let a = c .before .before .before .before .before .before .before .before .before .args in
+    let t = c .before .before .before .before .before .«open» in
+    let e = open-done (openJudgement (a .image .now) (length (a .area .now))) _ _ (sym (t .ensures .0) ∙ c .before .answer .given .1) in
+    (rw (e .0) refl, (rw (e .0) (e .1), t .ensures .1))
+
+same-length-2 : tie.Need-same-length-2
+same-length-2 c = search needs
+
+returns-2 : tie.Need-returns-2
+returns-2 c =
+    let a = c .before .before .before .before .before .before .before .before .before .before .args in
+    let t = c .before .before .before .before .before .before .«open» in
+    let e = open-refused (openJudgement (a .image .now) (length (a .area .now))) _ _ _ (sym (t .ensures .0) ∙ c .before .before .answer2 .given .1) in
+    (rw e (c .refused .ensures), (rw e refl, t .ensures .1))
+
+pub bench-open-spec : {M : Type 1} → statement M
+bench-open-spec =
+    tie.close
+    (tie.spec
+    open-requires
+    enum-known-answer
+    enum-known-answer-2
+    refused-requires
+    same-length
+    returns
+    same-length-2
+    returns-2)

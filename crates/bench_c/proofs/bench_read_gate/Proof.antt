@@ -1,0 +1,44 @@
+-- `bench_c::bench_read_gate` meets its contract. Assumes nothing.
+use mathlib.Core.Path.{_≡_, refl, sym, ap, _∙_}
+use Rattle.calls.specs.Judged.{gateJudgement}
+use Rattle.bench_c.proofs.Answered.{gate-done, gate-refused}
+use borrow.Author.Needs.{needs}
+use Rattle.bench_c.proofs.bench_read_gate.Statement.{statement}
+use Rattle.bench_c.proofs.bench_read_gate.Tie as tie
+
+read-gate-requires : tie.Need-read-gate-requires
+read-gate-requires c κs = search needs
+
+enum-known-answer : tie.Need-enum-known-answer
+enum-known-answer c = search needs
+
+enum-known-answer-2 : tie.Need-enum-known-answer-2
+enum-known-answer-2 c = search needs
+
+refused-requires : tie.Need-refused-requires
+refused-requires c κs = search needs
+
+returns : tie.Need-returns
+returns c =
+    let a = c .before .before .before .before .before .args in
+    let t = c .before .before .before .read-gate in
+    let e = gate-done (gateJudgement (a .area .now) (a .gate)) _ _ _ _ (sym (t .ensures) ∙ c .before .answer .given .1) in
+    (rw (e .0) refl, (rw (e .0) (e .1), rw (e .0) (e .2)))
+
+returns-2 : tie.Need-returns-2
+returns-2 c =
+    let a = c .before .before .before .before .before .before .args in
+    let t = c .before .before .before .before .read-gate in
+    let e = gate-refused (gateJudgement (a .area .now) (a .gate)) _ _ _ _ (sym (t .ensures) ∙ c .before .before .answer2 .given .1) in
+    (rw e (c .refused .ensures), (rw e refl, rw e refl))
+
+pub bench-read-gate-spec : {M : Type 1} → statement M
+bench-read-gate-spec =
+    tie.close
+    (tie.spec
+    read-gate-requires
+    enum-known-answer
+    enum-known-answer-2
+    refused-requires
+    returns
+    returns-2)

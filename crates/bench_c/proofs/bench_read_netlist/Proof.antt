@@ -1,0 +1,45 @@
+-- `bench_c::bench_read_netlist` meets its contract. Assumes nothing.
+use mathlib.Core.Path.{_≡_, refl, sym, ap, _∙_}
+use Rattle.words.specs.Words.{pattern, reliabilityWord}
+use Rattle.calls.specs.Judged.{areaJudgement}
+use Rattle.bench_c.proofs.Answered.{netlist-done, netlist-refused}
+use borrow.Author.Needs.{needs}
+use Rattle.bench_c.proofs.bench_read_netlist.Statement.{statement}
+use Rattle.bench_c.proofs.bench_read_netlist.Tie as tie
+
+read-netlist-requires : tie.Need-read-netlist-requires
+read-netlist-requires c κs = search needs
+
+enum-known-answer : tie.Need-enum-known-answer
+enum-known-answer c = search needs
+
+enum-known-answer-2 : tie.Need-enum-known-answer-2
+enum-known-answer-2 c = search needs
+
+refused-requires : tie.Need-refused-requires
+refused-requires c κs = search needs
+
+returns : tie.Need-returns
+returns c =
+    let a = c .before .before .before .before .before .args in
+    let t = c .before .before .before .read-netlist in
+    let e = netlist-done (areaJudgement (a .area .now)) (pattern (a .area .now)) (reliabilityWord (a .area .now)) _ _ _ _ (t .ensures) (c .before .answer .given .1) in
+    (rw (e .0) refl, (rw (e .0) (e .1), (rw (e .0) (e .2), rw (e .0) (e .3))))
+
+returns-2 : tie.Need-returns-2
+returns-2 c =
+    let a = c .before .before .before .before .before .before .args in
+    let t = c .before .before .before .before .read-netlist in
+    let e = netlist-refused (areaJudgement (a .area .now)) (pattern (a .area .now)) (reliabilityWord (a .area .now)) _ _ _ (t .ensures) (c .before .before .answer2 .given .1) in
+    (rw e (c .refused .ensures), (rw e refl, (rw e refl, rw e refl)))
+
+pub bench-read-netlist-spec : {M : Type 1} → statement M
+bench-read-netlist-spec =
+    tie.close
+    (tie.spec
+    read-netlist-requires
+    enum-known-answer
+    enum-known-answer-2
+    refused-requires
+    returns
+    returns-2)

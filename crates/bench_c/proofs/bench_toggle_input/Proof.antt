@@ -1,0 +1,52 @@
+-- `bench_c::bench_toggle_input` meets its contract. Assumes nothing.
+use mathlib.Core.Path.{_≡_, refl, sym, ap, _∙_}
+use Rattle.calls.specs.Judged.{toggleJudgement}
+use Rattle.bench_c.proofs.Answered.{toggle-done, toggle-refused}
+use borrow.Author.Needs.{needs}
+use Rattle.bench_c.proofs.bench_toggle_input.Statement.{statement}
+use Rattle.bench_c.proofs.bench_toggle_input.Tie as tie
+
+toggle-input-requires : tie.Need-toggle-input-requires
+toggle-input-requires c κs = search needs
+
+enum-told : tie.Need-enum-told
+enum-told c = search needs
+
+enum-known-answer : tie.Need-enum-known-answer
+enum-known-answer c = search needs
+
+refused-requires : tie.Need-refused-requires
+refused-requires c κs = search needs
+
+same-length : tie.Need-same-length
+same-length c = search needs
+
+returns : tie.Need-returns
+returns c =
+    let a = c .before .before .before .before .before .before .before .args in
+    let t = c .before .before .before .before .toggle-input in
+    let e = toggle-done (toggleJudgement (a .area .now) (a .input)) (sym (t .ensures .0) ∙ c .enum-told .given .1) in
+    (rw e refl, t .ensures .1)
+
+same-length-2 : tie.Need-same-length-2
+same-length-2 c = search needs
+
+returns-2 : tie.Need-returns-2
+returns-2 c =
+    let a = c .before .before .before .before .before .before .before .before .before .args in
+    let t = c .before .before .before .before .before .before .toggle-input in
+    let e = toggle-refused (toggleJudgement (a .area .now) (a .input)) _ _ (sym (t .ensures .0) ∙ c .before .before .answer .given .1) in
+    (rw e (c .refused .ensures), t .ensures .1)
+
+pub bench-toggle-input-spec : {M : Type 1} → statement M
+bench-toggle-input-spec =
+    tie.close
+    (tie.spec
+    toggle-input-requires
+    enum-told
+    enum-known-answer
+    refused-requires
+    same-length
+    returns
+    same-length-2
+    returns-2)

@@ -1,0 +1,40 @@
+-- What C gets of an answer: one number, and each out-parameter written only where the work was done.
+use Prim.Native.Nat.{ℕ, _+_, _*_, _/_, _%_}
+use mathlib.Core.Path.{_≡_}
+use mathlib.Core.Bool.{false}
+use mathlib.Core.List.{List, [], _∷_}
+use lib.Ieee.{Float}
+use lib.Ieee.Exact.{HasValue}
+use Rattle.rounding.specs.Rounding.{unitsInOne}
+use Rattle.image.specs.Judgement.{Judgement, fine, refusal}
+
+-- 0 where the work was done, else the refusal's number in the high 32 bits and its place in the low ones
+abbrev pub refusalCode : ℕ → ℕ → ℕ
+refusalCode number place = number * 4_294_967_296 + place
+
+abbrev pub code : Judgement → ℕ
+code fine = 0
+code (refusal number place) = refusalCode number place
+
+-- the result, or what the out-parameter held where the call is refused
+abbrev pub outBy : Judgement → ℕ → ℕ → ℕ
+outBy fine result stood = result
+outBy (refusal number place) result stood = stood
+
+-- a float whose value is exactly units / U, or the one that the out-parameter held
+abbrev pub FloatBy : Judgement → ℕ → Float → Float → Type 0
+FloatBy fine units stood left = HasValue left false units unitsInOne
+FloatBy (refusal number place) units stood left = left ≡ stood
+
+-- the eight bytes of a flip's field, which C passes as one little-endian number
+unfoldable pub fieldBytes : ℕ → List ℕ
+fieldBytes x =
+    x % 256
+    ∷ x / 256 % 256
+    ∷ x / 65_536 % 256
+    ∷ x / 16_777_216 % 256
+    ∷ x / 4_294_967_296 % 256
+    ∷ x / 1_099_511_627_776 % 256
+    ∷ x / 281_474_976_710_656 % 256
+    ∷ x / 72_057_594_037_927_936 % 256
+    ∷ []

@@ -1,0 +1,145 @@
+// The six calls of the bench for C. Each answers 0 where the work was done, else number × 2^32 + place, and then leaves what its pointers name as it was.
+ghost use mathlib.Core.Path.{_≡_};
+ghost use Prim.Native.Nat.{_/_, _%_};
+ghost use lib.ListN.{length};
+ghost use Rattle.words.specs.Words.{pattern as patternWord, reliabilityWord, figure};
+ghost use Rattle.words.specs.Work.{workAll, toggleWords, setWords};
+ghost use Rattle.calls.specs.Judged.{openJudgement, areaJudgement, toggleJudgement, setJudgement, gateJudgement, averageJudgement};
+ghost use Rattle.calls.specs.Calls.{leftBy, openWords, openLive, flipUnits, averageOf};
+ghost use Rattle.bench_c.specs.Codes.{refusalCode, code, outBy, fieldBytes, FloatBy};
+use bench::Averaged;
+use bench::FlipSet;
+use bench::GateRead;
+use bench::NetlistRead;
+use bench::Opened;
+use bench::Toggled;
+
+fn refused(number: u8, place: u32) -> u64
+    ensures { λ r. ⌜ r ≡ refusalCode number place ⌝ }
+{
+    number as u64 * 4_294_967_296 + place as u64
+}
+
+#[no_mangle]
+pub extern "C" fn bench_toggle_input(area: &mut [u32], input: u32) -> u64
+    ensures { λ r. ⌜ r ≡ code (toggleJudgement (now (area .entry)) input) ⌝ }
+    ensures { λ _. ⌜ now (area .exit) ≡ leftBy (toggleJudgement (now (area .entry)) input) (toggleWords (now (area .entry)) input) (now (area .entry)) ⌝ }
+{
+    let answer = bench::toggle_input(area, input);
+    match answer {
+        Toggled::Done => 0,
+        Toggled::Refused(number, place) => refused(number, place),
+    }
+}
+
+#[no_mangle]
+pub extern "C" fn bench_read_gate(
+    area: &[u32],
+    gate: u32,
+    right: &mut u32,
+    failure: &mut u32,
+) -> u64
+    ensures { λ r. ⌜ r ≡ code (gateJudgement (now (area .entry)) gate) ⌝ }
+    ensures { λ _. ⌜ now (right .exit) ≡ outBy (gateJudgement (now (area .entry)) gate) (figure (now (area .entry)) gate % 2) (now (right .entry)) ⌝ }
+    ensures { λ _. ⌜ now (failure .exit) ≡ outBy (gateJudgement (now (area .entry)) gate) (figure (now (area .entry)) gate / 2) (now (failure .entry)) ⌝ }
+{
+    let answer = bench::read_gate(area, gate);
+    match answer {
+        GateRead::Done {
+            right: value,
+            failure: units,
+        } => {
+            *right = value;
+            *failure = units;
+            0
+        }
+        GateRead::Refused(number, place) => refused(number, place),
+    }
+}
+
+#[no_mangle]
+pub extern "C" fn bench_open(area: &mut [u32], image: &[u8], live: &mut u32) -> u64
+    ensures { λ r. ⌜ r ≡ code (openJudgement (now (image .entry)) (length (now (area .entry)))) ⌝ }
+    ensures { λ _. ⌜ now (live .exit) ≡ outBy (openJudgement (now (image .entry)) (length (now (area .entry)))) (openLive (now (image .entry))) (now (live .entry)) ⌝ }
+    ensures { λ _. ⌜ now (area .exit) ≡ leftBy (openJudgement (now (image .entry)) (length (now (area .entry)))) (openWords (now (image .entry)) (now (area .entry))) (now (area .entry)) ⌝ }
+{
+    let answer = bench::open(area, image);
+    match answer {
+        Opened::Done(gates) => {
+            *live = gates;
+            0
+        }
+        Opened::Refused(number, place) => refused(number, place),
+    }
+}
+
+#[no_mangle]
+pub extern "C" fn bench_average(area: &mut [u32], weights: &[u32], units: &mut u32) -> u64
+    ensures { λ r. ⌜ r ≡ code (averageJudgement (now (area .entry)) (now (weights .entry))) ⌝ }
+    ensures { λ _. ⌜ now (units .exit) ≡ outBy (averageJudgement (now (area .entry)) (now (weights .entry))) (averageOf (now (area .entry)) (now (weights .entry))) (now (units .entry)) ⌝ }
+    ensures { λ _. ⌜ now (area .exit) ≡ leftBy (averageJudgement (now (area .entry)) (now (weights .entry))) (workAll (now (area .entry))) (now (area .entry)) ⌝ }
+{
+    let answer = bench::average(area, weights);
+    match answer {
+        Averaged::Done(average) => {
+            *units = average;
+            0
+        }
+        Averaged::Refused(number, place) => refused(number, place),
+    }
+}
+
+// Byte 0 of a number.
+fn low_byte(x: u64) -> u8
+    ensures { λ r. ⌜ r ≡ x % 256 ⌝ }
+{
+    (x % 256) as u8
+}
+
+#[no_mangle]
+pub extern "C" fn bench_set_flip(area: &mut [u32], gate: u32, kind: u8, field: u64) -> u64
+    ensures { λ r. ⌜ r ≡ code (setJudgement (now (area .entry)) gate kind (fieldBytes field)) ⌝ }
+    ensures { λ _. ⌜ now (area .exit) ≡ leftBy (setJudgement (now (area .entry)) gate kind (fieldBytes field)) (setWords (now (area .entry)) gate (flipUnits kind (fieldBytes field))) (now (area .entry)) ⌝ }
+{
+    let b0 = low_byte(field);
+    let b1 = low_byte(field / 256);
+    let b2 = low_byte(field / 65_536);
+    let b3 = low_byte(field / 16_777_216);
+    let b4 = low_byte(field / 4_294_967_296);
+    let b5 = low_byte(field / 1_099_511_627_776);
+    let b6 = low_byte(field / 281_474_976_710_656);
+    let b7 = low_byte(field / 72_057_594_037_927_936);
+    let answer = bench::set_flip(area, gate, kind, [b0, b1, b2, b3, b4, b5, b6, b7]);
+    match answer {
+        FlipSet::Done => 0,
+        FlipSet::Refused(number, place) => refused(number, place),
+    }
+}
+
+#[no_mangle]
+pub extern "C" fn bench_read_netlist(
+    area: &[u32],
+    pattern: &mut u32,
+    units: &mut u32,
+    reliability: &mut f64,
+) -> u64
+    ensures { λ r. ⌜ r ≡ code (areaJudgement (now (area .entry))) ⌝ }
+    ensures { λ _. ⌜ now (pattern .exit) ≡ outBy (areaJudgement (now (area .entry))) (patternWord (now (area .entry))) (now (pattern .entry)) ⌝ }
+    ensures { λ _. ⌜ now (units .exit) ≡ outBy (areaJudgement (now (area .entry))) (reliabilityWord (now (area .entry))) (now (units .entry)) ⌝ }
+    ensures { λ _. ⌜ FloatBy (areaJudgement (now (area .entry))) (reliabilityWord (now (area .entry))) (now (reliability .entry)) (now (reliability .exit)) ⌝ }
+{
+    let answer = bench::read_netlist(area);
+    match answer {
+        NetlistRead::Done {
+            pattern: bits,
+            units: count,
+            reliability: value,
+        } => {
+            *pattern = bits;
+            *units = count;
+            *reliability = value;
+            0
+        }
+        NetlistRead::Refused(number, place) => refused(number, place),
+    }
+}
