@@ -16,17 +16,10 @@ use Rattle.image.specs.Refusals.{lengthRight, backRight, trailerRefusal, gateRe
 use Rattle.image.specs.Loading.{recordChance, middleWords, imageWords}
 use Rattle.calls.specs.Judged.{sharedJudgement, openJudgement, weightsJudgement}
 use Rattle.calls.specs.Calls.{Call, open-image, toggle-input, set-flip, read-netlist, read-gate, take-average, openWords}
+use Rattle.calls.specs.Sheets.{printedImage}
 use Rattle.book.specs.Book.{Book, imageNet, imageBook, withFlip, bookJudgement, bookStep}
 use Rattle.book.specs.Statement.{Kept}
 use Rattle.book.proofs.List.{demand3}
-
-abbrev pub printedImage : List ℕ
-printedImage =
-    1 ∷ 1 ∷ 2 ∷ 0 ∷ 0 ∷ 0 ∷ 0 ∷ 0 ∷ 0 ∷ 0 ∷ 0 ∷ 0 ∷ 0 ∷ 0 ∷ 0 ∷ 0 ∷ 0 ∷ 0 ∷ 0xe0 ∷ 0x3f
-    ∷ 1 ∷ 1 ∷ 2 ∷ 0 ∷ 1 ∷ 0 ∷ 0 ∷ 0 ∷ 0 ∷ 0 ∷ 0 ∷ 0 ∷ 0 ∷ 0 ∷ 0 ∷ 0 ∷ 0 ∷ 0 ∷ 0xe0 ∷ 0x3f
-    ∷ 2 ∷ 0 ∷ 8 ∷ 0 ∷ 2 ∷ 0 ∷ 3 ∷ 0 ∷ 0 ∷ 0 ∷ 0 ∷ 0 ∷ 0 ∷ 0 ∷ 0 ∷ 0 ∷ 0 ∷ 0 ∷ 0 ∷ 0
-    ∷ 4 ∷ 0
-    ∷ 2 ∷ 0 ∷ 3 ∷ 0 ∷ 1 ∷ 0 ∷ 1 ∷ 0 ∷ 62 ∷ 0 ∷ 0 ∷ 0 ∷ 78 ∷ 0 ∷ 0 ∷ 0 ∷ []
 
 pub not-refused : imageRefusal printedImage ≡ fine
 unfolding
