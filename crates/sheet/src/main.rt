@@ -8,8 +8,6 @@ use bench::Opened;
 use libc::STDIN_FILENO;
 use libc::STDOUT_FILENO;
 
-const MOST_INPUTS: u32 = 12;
-
 fn print_word(text: &[u8], number: u32) {
     io::write_all(STDOUT_FILENO, text);
     io::print_decimal(STDOUT_FILENO, number as u64);
@@ -29,11 +27,7 @@ fn print_refused(number: u8, place: u32) {
 fn at_most_twelve(inputs: u32) -> usize
     ensures { λ r. ⌜ r ≤ 12 ⌝ }
 {
-    if inputs < MOST_INPUTS {
-        inputs as usize
-    } else {
-        12
-    }
+    if inputs < 12 { inputs as usize } else { 12 }
 }
 
 fn pattern_count(inputs: usize) -> usize
