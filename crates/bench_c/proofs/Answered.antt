@@ -2,7 +2,7 @@
 use Prim.Native.Nat.{ℕ, _/_, _%_}
 use mathlib.Core.List.{List, [], _∷_}
 use Rattle.bench_c.specs.Codes.{fieldBytes}
-use mathlib.Core.Path.{_≡_, refl, sym, ap, _∙_}
+use mathlib.Core.Path.{_≡_, refl}
 use native.Mathlib.Omega.{arith}
 use lib.Ieee.{Float}
 use mathlib.Core.Bool.{false}
@@ -18,57 +18,40 @@ use Rattle.bench.specs.declared.NetlistRead.the-variants.{Done as NetlistDone, 
 use Rattle.bench.specs.declared.Averaged.the-variants.{Done as AverageDone, Refused as AverageRefused}
 use Rattle.bench.specs.declared.GateRead.the-variants.{Done as GateDone, Refused as GateRefused}
 
-pub toggle-done : (j : Judgement) → toggled j ≡ ToggleDone → j ≡ fine
-toggle-done fine e = refl
-toggle-done (refusal a p) e = cc
+-- each law: what the answer done tells, then what a refused one tells
+pub toggle-told : (j : Judgement) → (toggled j ≡ ToggleDone → j ≡ fine) × ((a p : ℕ) → toggled j ≡ ToggleRefused a p → j ≡ refusal a p)
+toggle-told fine = (λ e. refl, λ a p e. cc)
+toggle-told (refusal b q) = (λ e. cc, λ a p e. cc)
 
-pub toggle-refused : (j : Judgement) (a p : ℕ) → toggled j ≡ ToggleRefused a p → j ≡ refusal a p
-toggle-refused fine a p e = cc
-toggle-refused (refusal b q) a p e = cc
+pub set-told : (j : Judgement) → (flipSet j ≡ SetDone → j ≡ fine) × ((a p : ℕ) → flipSet j ≡ SetRefused a p → j ≡ refusal a p)
+set-told fine = (λ e. refl, λ a p e. cc)
+set-told (refusal b q) = (λ e. cc, λ a p e. cc)
 
-pub set-done : (j : Judgement) → flipSet j ≡ SetDone → j ≡ fine
-set-done fine e = refl
-set-done (refusal a p) e = cc
+pub open-told : (j : Judgement) (v : ℕ)
+    → ((n : ℕ) → opened j v ≡ OpenDone n → (j ≡ fine) × (n ≡ v)) × ((a p : ℕ) → opened j v ≡ OpenRefused a p → j ≡ refusal a p)
+open-told fine v = (λ n e. (refl, cc), λ a p e. cc)
+open-told (refusal b q) v = (λ n e. (cc, cc), λ a p e. cc)
 
-pub set-refused : (j : Judgement) (a p : ℕ) → flipSet j ≡ SetRefused a p → j ≡ refusal a p
-set-refused fine a p e = cc
-set-refused (refusal b q) a p e = cc
+pub average-told : (j : Judgement) (v : ℕ)
+    → ((n : ℕ) → averaged j v ≡ AverageDone n → (j ≡ fine) × (n ≡ v)) × ((a p : ℕ) → averaged j v ≡ AverageRefused a p → j ≡ refusal a p)
+average-told fine v = (λ n e. (refl, cc), λ a p e. cc)
+average-told (refusal b q) v = (λ n e. (cc, cc), λ a p e. cc)
 
-pub open-done : (j : Judgement) (v n : ℕ) → opened j v ≡ OpenDone n → (j ≡ fine) × (n ≡ v)
-open-done fine v n e = (refl, cc)
-open-done (refusal a p) v n e = (cc, cc)
+pub gate-told : (j : Judgement) (v w : ℕ)
+    → ((m n : ℕ) → gateRead j v w ≡ GateDone m n → (j ≡ fine) × (m ≡ v) × (n ≡ w))
+    × ((a p : ℕ) → gateRead j v w ≡ GateRefused a p → j ≡ refusal a p)
+gate-told fine v w = (λ m n e. (refl, cc, cc), λ a p e. cc)
+gate-told (refusal b q) v w = (λ m n e. (cc, cc, cc), λ a p e. cc)
 
-pub open-refused : (j : Judgement) (v a p : ℕ) → opened j v ≡ OpenRefused a p → j ≡ refusal a p
-open-refused fine v a p e = cc
-open-refused (refusal b q) v a p e = cc
-
-pub average-done : (j : Judgement) (v n : ℕ) → averaged j v ≡ AverageDone n → (j ≡ fine) × (n ≡ v)
-average-done fine v n e = (refl, cc)
-average-done (refusal a p) v n e = (cc, cc)
-
-pub average-refused : (j : Judgement) (v a p : ℕ) → averaged j v ≡ AverageRefused a p → j ≡ refusal a p
-average-refused fine v a p e = cc
-average-refused (refusal b q) v a p e = cc
-
-pub gate-done : (j : Judgement) (v w m n : ℕ) → gateRead j v w ≡ GateDone m n → (j ≡ fine) × (m ≡ v) × (n ≡ w)
-gate-done fine v w m n e = (refl, cc, cc)
-gate-done (refusal a p) v w m n e = (cc, cc, cc)
-
-pub gate-refused : (j : Judgement) (v w a p : ℕ) → gateRead j v w ≡ GateRefused a p → j ≡ refusal a p
-gate-refused fine v w a p e = cc
-gate-refused (refusal b q) v w a p e = cc
-
-pub netlist-done : (j : Judgement) (v w m n : ℕ) (x : Float) (r : NetlistRead) → NetlistAnswer j v w r → r ≡ NetlistDone m n x
-    → (j ≡ fine) × (m ≡ v) × (n ≡ w) × HasValue x false w unitsInOne
-netlist-done fine v w m n x r e f =
-    let s = e .1 in
-    let q : x ≡ e .0 = cc in
-    (refl, cc, cc, rw q (e .2))
-netlist-done (refusal a p) v w m n x r e f = absurd (let z : _≡_ {A = ℕ} 0 1 = cc in omega arith)
-
-pub netlist-refused : (j : Judgement) (v w a p : ℕ) (r : NetlistRead) → NetlistAnswer j v w r → r ≡ NetlistRefused a p → j ≡ refusal a p
-netlist-refused fine v w a p r e f = let s = e .1 in cc
-netlist-refused (refusal b q) v w a p r e f = cc
+pub netlist-told : (j : Judgement) (v w : ℕ) (r : NetlistRead) → NetlistAnswer j v w r
+    → ((m n : ℕ) (x : Float) → r ≡ NetlistDone m n x → (j ≡ fine) × (m ≡ v) × (n ≡ w) × HasValue x false w unitsInOne)
+    × ((a p : ℕ) → r ≡ NetlistRefused a p → j ≡ refusal a p)
+netlist-told fine v w r e =
+    let s = e .1 in (
+      λ m n x f. let q : x ≡ e .0 = cc in (refl, cc, cc, rw q (e .2)),
+      λ a p f. cc,
+    )
+netlist-told (refusal b q) v w r e = (λ m n x f. let z : _≡_ {A = ℕ} 0 1 = cc in absurd (omega arith), λ a p f. cc)
 
 -- the bytes that the code takes from the number are the field's
 pub bytes-are : (x b0 b1 b2 b3 b4 b5 b6 b7 : ℕ)

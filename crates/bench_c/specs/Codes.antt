@@ -8,10 +8,11 @@ use lib.Ieee.Exact.{HasValue}
 use Rattle.rounding.specs.Rounding.{unitsInOne}
 use Rattle.image.specs.Judgement.{Judgement, fine, refusal}
 
--- 0 where the work was done, else the refusal's number in the high 32 bits and its place in the low ones
+-- a refusal: its number in the high 32 bits, its place in the low ones
 abbrev pub refusalCode : ℕ → ℕ → ℕ
 refusalCode number place = number * 4_294_967_296 + place
 
+-- 0 where the work was done, else the refusal
 abbrev pub code : Judgement → ℕ
 code fine = 0
 code (refusal number place) = refusalCode number place

@@ -14,49 +14,14 @@ use bench::NetlistRead;
 use bench::Opened;
 use bench::Toggled;
 
+// A refusal as one number: the place fits below 2^32, so C can part the two.
 fn refused(number: u8, place: u32) -> u64
     ensures { λ r. ⌜ r ≡ refusalCode number place ⌝ }
 {
     number as u64 * 4_294_967_296 + place as u64
 }
 
-#[no_mangle]
-pub extern "C" fn bench_toggle_input(area: &mut [u32], input: u32) -> u64
-    ensures { λ r. ⌜ r ≡ code (toggleJudgement (now (area .entry)) input) ⌝ }
-    ensures { λ _. ⌜ now (area .exit) ≡ leftBy (toggleJudgement (now (area .entry)) input) (toggleWords (now (area .entry)) input) (now (area .entry)) ⌝ }
-{
-    let answer = bench::toggle_input(area, input);
-    match answer {
-        Toggled::Done => 0,
-        Toggled::Refused(number, place) => refused(number, place),
-    }
-}
-
-#[no_mangle]
-pub extern "C" fn bench_read_gate(
-    area: &[u32],
-    gate: u32,
-    right: &mut u32,
-    failure: &mut u32,
-) -> u64
-    ensures { λ r. ⌜ r ≡ code (gateJudgement (now (area .entry)) gate) ⌝ }
-    ensures { λ _. ⌜ now (right .exit) ≡ outBy (gateJudgement (now (area .entry)) gate) (figure (now (area .entry)) gate % 2) (now (right .entry)) ⌝ }
-    ensures { λ _. ⌜ now (failure .exit) ≡ outBy (gateJudgement (now (area .entry)) gate) (figure (now (area .entry)) gate / 2) (now (failure .entry)) ⌝ }
-{
-    let answer = bench::read_gate(area, gate);
-    match answer {
-        GateRead::Done {
-            right: value,
-            failure: units,
-        } => {
-            *right = value;
-            *failure = units;
-            0
-        }
-        GateRead::Refused(number, place) => refused(number, place),
-    }
-}
-
+// Opens an image; the number of live gates goes to `live`.
 #[no_mangle]
 pub extern "C" fn bench_open(area: &mut [u32], image: &[u8], live: &mut u32) -> u64
     ensures { λ r. ⌜ r ≡ code (openJudgement (now (image .entry)) (length (now (area .entry)))) ⌝ }
@@ -73,19 +38,16 @@ pub extern "C" fn bench_open(area: &mut [u32], image: &[u8], live: &mut u32) -> 
     }
 }
 
+// Toggles one input.
 #[no_mangle]
-pub extern "C" fn bench_average(area: &mut [u32], weights: &[u32], units: &mut u32) -> u64
-    ensures { λ r. ⌜ r ≡ code (averageJudgement (now (area .entry)) (now (weights .entry))) ⌝ }
-    ensures { λ _. ⌜ now (units .exit) ≡ outBy (averageJudgement (now (area .entry)) (now (weights .entry))) (averageOf (now (area .entry)) (now (weights .entry))) (now (units .entry)) ⌝ }
-    ensures { λ _. ⌜ now (area .exit) ≡ leftBy (averageJudgement (now (area .entry)) (now (weights .entry))) (workAll (now (area .entry))) (now (area .entry)) ⌝ }
+pub extern "C" fn bench_toggle_input(area: &mut [u32], input: u32) -> u64
+    ensures { λ r. ⌜ r ≡ code (toggleJudgement (now (area .entry)) input) ⌝ }
+    ensures { λ _. ⌜ now (area .exit) ≡ leftBy (toggleJudgement (now (area .entry)) input) (toggleWords (now (area .entry)) input) (now (area .entry)) ⌝ }
 {
-    let answer = bench::average(area, weights);
+    let answer = bench::toggle_input(area, input);
     match answer {
-        Averaged::Done(average) => {
-            *units = average;
-            0
-        }
-        Averaged::Refused(number, place) => refused(number, place),
+        Toggled::Done => 0,
+        Toggled::Refused(number, place) => refused(number, place),
     }
 }
 
@@ -96,6 +58,7 @@ fn low_byte(x: u64) -> u8
     (x % 256) as u8
 }
 
+// Sets one gate's flip. C passes no array by value, so the eight bytes of the field come as one little-endian number.
 #[no_mangle]
 pub extern "C" fn bench_set_flip(area: &mut [u32], gate: u32, kind: u8, field: u64) -> u64
     ensures { λ r. ⌜ r ≡ code (setJudgement (now (area .entry)) gate kind (fieldBytes field)) ⌝ }
@@ -116,6 +79,7 @@ pub extern "C" fn bench_set_flip(area: &mut [u32], gate: u32, kind: u8, field: u
     }
 }
 
+// Reads the pattern and the reliability, in units and as an f64.
 #[no_mangle]
 pub extern "C" fn bench_read_netlist(
     area: &[u32],
@@ -141,5 +105,48 @@ pub extern "C" fn bench_read_netlist(
             0
         }
         NetlistRead::Refused(number, place) => refused(number, place),
+    }
+}
+
+// Reads one gate's right value and failure.
+#[no_mangle]
+pub extern "C" fn bench_read_gate(
+    area: &[u32],
+    gate: u32,
+    right: &mut u32,
+    failure: &mut u32,
+) -> u64
+    ensures { λ r. ⌜ r ≡ code (gateJudgement (now (area .entry)) gate) ⌝ }
+    ensures { λ _. ⌜ now (right .exit) ≡ outBy (gateJudgement (now (area .entry)) gate) (figure (now (area .entry)) gate % 2) (now (right .entry)) ⌝ }
+    ensures { λ _. ⌜ now (failure .exit) ≡ outBy (gateJudgement (now (area .entry)) gate) (figure (now (area .entry)) gate / 2) (now (failure .entry)) ⌝ }
+{
+    let answer = bench::read_gate(area, gate);
+    match answer {
+        GateRead::Done {
+            right: value,
+            failure: units,
+        } => {
+            *right = value;
+            *failure = units;
+            0
+        }
+        GateRead::Refused(number, place) => refused(number, place),
+    }
+}
+
+// The weighted average goes to `units`.
+#[no_mangle]
+pub extern "C" fn bench_average(area: &mut [u32], weights: &[u32], units: &mut u32) -> u64
+    ensures { λ r. ⌜ r ≡ code (averageJudgement (now (area .entry)) (now (weights .entry))) ⌝ }
+    ensures { λ _. ⌜ now (units .exit) ≡ outBy (averageJudgement (now (area .entry)) (now (weights .entry))) (averageOf (now (area .entry)) (now (weights .entry))) (now (units .entry)) ⌝ }
+    ensures { λ _. ⌜ now (area .exit) ≡ leftBy (averageJudgement (now (area .entry)) (now (weights .entry))) (workAll (now (area .entry))) (now (area .entry)) ⌝ }
+{
+    let answer = bench::average(area, weights);
+    match answer {
+        Averaged::Done(average) => {
+            *units = average;
+            0
+        }
+        Averaged::Refused(number, place) => refused(number, place),
     }
 }

@@ -7,7 +7,7 @@ use Rattle.calls.specs.Calls.{leftBy, flipUnits}
 use Rattle.bench.specs.Answers.{flipSet}
 use Rattle.bench_c.specs.Codes.{fieldBytes}
 use mathlib.Core.Path.{_≡_, refl, sym, ap, _∙_}
-use Rattle.bench_c.proofs.Answered.{set-done, set-refused, bytes-are}
+use Rattle.bench_c.proofs.Answered.{set-told, bytes-are}
 use borrow.Author.Needs.{needs}
 use Rattle.bench_c.proofs.bench_set_flip.Statement.{statement}
 use Rattle.bench_c.proofs.bench_set_flip.Tie as tie
@@ -70,7 +70,7 @@ returns : tie.Need-returns
 returns c =
     let a = c .before .before .before .before .before .before .before .before .before .before .before .before .before .before .before .args in
     let t = promised (c .before .before .before .before) in
-    let e = set-done (setJudgement (a .area .now) (a .gate) (a .kind) (fieldBytes (a .field))) (sym (t .0) ∙ c .enum-told .given .1) in
+    let e = set-told (setJudgement (a .area .now) (a .gate) (a .kind) (fieldBytes (a .field))) .0 (sym (t .0) ∙ c .enum-told .given .1) in
     (rw e refl, t .1)
 
 same-length-2 : tie.Need-same-length-2
@@ -80,7 +80,7 @@ returns-2 : tie.Need-returns-2
 returns-2 c =
     let a = c .before .before .before .before .before .before .before .before .before .before .before .before .before .before .before .before .before .args in
     let t = promised (c .before .before .before .before .before .before) in
-    let e = set-refused (setJudgement (a .area .now) (a .gate) (a .kind) (fieldBytes (a .field))) _ _ (sym (t .0) ∙ c .before .before .answer .given .1) in
+    let e = set-told (setJudgement (a .area .now) (a .gate) (a .kind) (fieldBytes (a .field))) .1 _ _ (sym (t .0) ∙ c .before .before .answer .given .1) in
     (rw e (c .refused .ensures), t .1)
 
 pub bench-set-flip-spec : {M : Type 1} → statement M

@@ -1,0 +1,163 @@
+/*
+ * The soft-error bench for C: six calls on a work area of 32-bit words.
+ *
+ * Link with target/staticlib/libbench_c.a, which `rt staticlib bench_c` writes (x86-64). Every
+ * function below is proved to do what its contract in crates/bench_c/src/lib.rt says, for all
+ * arguments that keep the rules on pointers.
+ *
+ *
+ * UNITS
+ *
+ * Failures and reliabilities are whole numbers of units. One is BENCH_ONE units, 2^30: a figure of c
+ * units stands for c / 2^30.
+ *
+ *
+ * THE WORK AREA
+ *
+ * The caller owns the area and lends it to each call. An opened netlist with G gates and K outputs
+ * takes BENCH_WORDS(G, K) words, and BENCH_WORDS_MAX are enough for every netlist. The words:
+ *
+ *     0 inputs   1 gates   2 outputs   3 pattern   4 reliability   5 to 7 zero
+ *     then eight a gate: pin count, truth table, four pins, flip units, 2 * failure + right value
+ *     then one a output: its source
+ *
+ * Words after these are never written. Bit i of the pattern is input i. The library keeps nothing
+ * between two calls: an area may be copied, stored, and used again later.
+ *
+ *
+ * ANSWERS
+ *
+ * Each call returns 0 when its work is done. Otherwise it refuses, and the returned number holds the
+ * refusal: BENCH_NUMBER says which one, BENCH_PLACE where. A refused call has changed nothing: no
+ * word of the area, and nothing that an out-pointer points to. Of several reasons the call gives the
+ * first in the order that stands with it.
+ *
+ *     no.  refused because                                                     place
+ *      1   image length not 16 to 32768, or not the total in its trailer       0
+ *      2   image format is not 1                                               0
+ *      3   more than 12 inputs or 1024 gates, or outputs not 1 to 64           0
+ *      4   the way back to the first gate record is not 20 G + 2 K, or starts
+ *          before the image                                                    0
+ *      5   gate: more than 4 pins, a table bit that no pin value selects, or
+ *          an unused pin that is not 0                                         gate
+ *      6   gate: a used pin reads neither an input nor an earlier gate         gate
+ *      7   gate: flip kind above 2, or a field that its kind does not allow    gate
+ *      8   output: its source does not exist                                   output
+ *      9   a live gate has more than one live reader                           gate
+ *     10   the call names an input or a gate that does not exist               that number
+ *     11   the call's flip kind or field is one that 7 would refuse            gate
+ *     12   weights: not one for each pattern; else one above 1048575;
+ *          else all of them zero                                               0; weight; 0
+ *     13   the area is too short                                               0
+ *     14   the area's words are not those of a netlist                         0
+ *
+ * Where a place is a position in a list, it is the lowest one that is wrong.
+ *
+ * Every call but bench_open first judges the area, in this order: 13 if it has fewer than 8 words, 14
+ * if one of its three counts is out of range, 13 if it is shorter than the counts need, 14 if any
+ * other word breaks a rule. An area that bench_open filled and only these calls changed since never
+ * gets 14, and gets 13 only if it is lent with fewer words than the netlist takes.
+ *
+ *
+ * POINTERS
+ *
+ * A pointer with a length stands for that many elements, all readable (writable where the pointer is
+ * not const). No pointer may be null, not even with the length 0: pass the address of any object of
+ * the type. Pointers are aligned for their type. What one pointer of a call can write must not
+ * overlap what another pointer of the same call names, and no other thread touches it meanwhile.
+ */
+#ifndef BENCH_H
+#define BENCH_H
+
+#include <stddef.h>
+#include <stdint.h>
+
+#ifdef __cplusplus
+extern "C" {
+#endif
+
+#define BENCH_ONE UINT32_C(1073741824)
+#define BENCH_WORDS(gates, outputs) (8 + 8 * (size_t)(gates) + (size_t)(outputs))
+#define BENCH_WORDS_MAX BENCH_WORDS(1024, 64)
+
+#define BENCH_NUMBER(answer) ((uint32_t)((uint64_t)(answer) >> 32))
+#define BENCH_PLACE(answer) ((uint32_t)((uint64_t)(answer) & UINT32_C(0xffffffff)))
+
+/*
+ * Opens a netlist image in the area, with pattern 0 and every figure worked out. What the area held
+ * before does not matter.
+ *
+ * Done: *live is the number of live gates (those that an output reads, or a live gate), and the area
+ * holds the netlist. Words past those that it takes are as before.
+ *
+ * Refused, in this order: 1, 2, 3, 4; then gate by gate 5, 6, 7; then output by output 8; then 9; then
+ * 13, where the area is shorter than the image's counts need.
+ */
+uint64_t bench_open(uint32_t *area, size_t area_len, const uint8_t *image, size_t image_len, uint32_t *live);
+
+/*
+ * Toggles one input of the pattern.
+ *
+ * Done: the pattern has that bit inverted; the gates that depend on the input are worked out again,
+ * and so is the reliability. The words of every other gate are as before.
+ *
+ * Refused, in this order: 13 and 14 of the area; 10 with place `input`.
+ */
+uint64_t bench_toggle_input(uint32_t *area, size_t area_len, uint32_t input);
+
+/*
+ * Sets the flip of one gate. `field` holds the eight bytes that stand in an image's gate record, as a
+ * little-endian number: byte i is field >> 8 * i & 255. By `kind`:
+ *
+ *     0   it never flips; field is 0
+ *     1   field is the bits of a double: the chance
+ *     2   the low half is the bits of a float, the strike chance, the high half those of another, the
+ *         latching window; the chance is their exact product
+ *
+ * Each of these floats is finite and from 0 to 1; minus zero is taken for zero. The chance is rounded
+ * to units once, to the nearest, a half upwards.
+ *
+ * Done: the gate has the new flip; it and the gates that depend on it are worked out again, and so is
+ * the reliability. The words of every other gate are as before.
+ *
+ * Refused, in this order: 13 and 14 of the area; 10 with place `gate`; 11 with place `gate`.
+ */
+uint64_t bench_set_flip(uint32_t *area, size_t area_len, uint32_t gate, uint8_t kind, uint64_t field);
+
+/*
+ * Reads the pattern and the reliability. It writes no word of the area.
+ *
+ * Done: *pattern is the pattern, *units the reliability in units, and *reliability the same as a
+ * double, which is exactly *units / 2^30.
+ *
+ * Refused: 13 and 14 of the area.
+ */
+uint64_t bench_read_netlist(const uint32_t *area, size_t area_len, uint32_t *pattern, uint32_t *units, double *reliability);
+
+/*
+ * Reads one gate. It writes no word of the area.
+ *
+ * Done: *right is the gate's right value under the pattern, 0 or 1, and *failure its failure in units.
+ *
+ * Refused, in this order: 13 and 14 of the area; 10 with place `gate`.
+ */
+uint64_t bench_read_gate(const uint32_t *area, size_t area_len, uint32_t gate, uint32_t *right, uint32_t *failure);
+
+/*
+ * The weighted average of the reliability over all patterns. weights[q] is the weight of pattern q, so
+ * with n inputs there are 2^n of them.
+ *
+ * Done: *units is the sum of weight times reliability, divided by the sum of the weights, to the
+ * nearest unit, a half upwards. The pattern is as before, and every figure in the area is what working
+ * it out afresh for that pattern gives.
+ *
+ * Refused, in this order: 13 and 14 of the area; 12 with place 0 where weights_len is not 2^n; 12 with
+ * the place of the first weight above 1048575; 12 with place 0 where all weights are zero.
+ */
+uint64_t bench_average(uint32_t *area, size_t area_len, const uint32_t *weights, size_t weights_len, uint32_t *units);
+
+#ifdef __cplusplus
+}
+#endif
+
+#endif
