@@ -14,7 +14,7 @@ use bench::NetlistRead;
 use bench::Opened;
 use bench::Toggled;
 
-// A refusal as one number: the place fits below 2^32, so C can part the two.
+// A refusal as one number: the place fits below 2^32, so C can part the two. No refusal gives 0 (proofs/Zero.antt).
 fn refused(number: u8, place: u32) -> u64
     ensures { λ r. ⌜ r ≡ refusalCode number place ⌝ }
 {
