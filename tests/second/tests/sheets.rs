@@ -27,6 +27,16 @@ fn refused<T>(number: u8, place: u32) -> Answer<T> {
     Answer::Refused { number, place }
 }
 
+/// Two buffers at a half into an AND that never flips, the one output.
+fn and_of_two_buffers() -> Draft {
+    let gates = vec![
+        Record::new(2, &[0], chance(0.5)),
+        Record::new(2, &[1], chance(0.5)),
+        Record::new(8, &[2, 3], NEVER),
+    ];
+    draft(2, gates, &[4])
+}
+
 /// The units of a flip, once from an image and once from a call; they must agree.
 fn units(flip: (u8, [u8; 8])) -> u32 {
     let (area, _) = opened(&draft(1, vec![Record::new(2, &[0], flip)], &[1]));
@@ -136,12 +146,7 @@ fn readers_of_live_gates() {
 
 #[test]
 fn an_and_on_zeros_fails_only_if_both_pins_are_wrong() {
-    let gates = vec![
-        Record::new(2, &[0], chance(0.5)),
-        Record::new(2, &[1], chance(0.5)),
-        Record::new(8, &[2, 3], NEVER),
-    ];
-    let (area, _) = opened(&draft(2, gates, &[4]));
+    let (area, _) = opened(&and_of_two_buffers());
     assert_eq!(ffi::read_gate(&area, 2).done().failure, ONE / 4);
     assert_eq!(area[RELIABILITY], ONE / 4 * 3);
 }
@@ -257,15 +262,10 @@ fn weights_at_their_limit() {
 
 #[test]
 fn the_printed_sheet() {
-    let gates = vec![
-        Record::new(2, &[0], chance(0.5)),
-        Record::new(2, &[1], chance(0.5)),
-        Record::new(8, &[2, 3], NEVER),
-    ];
     let printed = "inputs 2 gates 3 outputs 1 live 3\n\
                    00 805306368\n10 805306368\n01 805306368\n11 268435456\n\
                    average 671088640\n";
-    assert_eq!(sheet(&Library, &draft(2, gates, &[4]).bytes()), printed);
+    assert_eq!(sheet(&Library, &and_of_two_buffers().bytes()), printed);
     // No inputs: one pattern, written as a dash.
     let constant = draft(0, vec![Record::new(1, &[], chance(0.5))], &[0]);
     let printed = "inputs 0 gates 1 outputs 1 live 1\n- 536870912\naverage 536870912\n";
