@@ -1,4 +1,4 @@
--- The table's index pin by pin, and the pins of an array one by one. Assumes nothing.
+-- The pins of an array of four one by one. Assumes nothing.
 use Prim.Native.Nat.{ℕ, zero, suc, _+_, _-_, _*_, _%_, _^_, _≤_, _<_}
 use mathlib.Core.Path.{_≡_, refl, sym, ap, _∙_}
 use mathlib.Core.List.{List, [], _∷_, _++_, map}
@@ -7,19 +7,7 @@ use native.Mathlib.Numerals.{add-one}
 use native.Mathlib.Omega.{arith}
 use lib.ListN.{length, getD, take}
 use lib.Seq.{take-suc, length-take-le}
-use Rattle.figure.specs.Figure.{bitOf, indexOf, rightOf}
-use Rattle.figure.proofs.Laws.{bit-odd}
-
--- one pin more at the end has the weight 2^(pins before it)
-index-last : (ws : List ℕ) (w : ℕ) → indexOf (map rightOf (ws ++ (w ∷ []))) ≡ indexOf (map rightOf ws) + w % 2 * 2 ^ length ws
-index-last [] w = omega (arith, bit-odd w)
-index-last (v ∷ ws) w = omega (arith, index-last ws w, ap (λ (x : ℕ). w % 2 * x) (pow-succ' 2 (length ws)))
-
-pub index-next : (words : List ℕ) (i index weight : ℕ) → i < length words → weight ≡ 2 ^ i → index ≡ indexOf (map rightOf (take i words))
-    → index + getD words i 0 % 2 * weight ≡ indexOf (map rightOf (take (i + 1) words))
-index-next words i index weight h e q =
-    rw (add-one, take-suc words i 0 h, q, e)
-    (sym (index-last (take i words) (getD words i 0) ∙ ap (λ (n : ℕ). indexOf (map rightOf (take i words)) + getD words i 0 % 2 * 2 ^ n) (length-take-le i words (omega arith))))
+use Rattle.figure.specs.Steps.{firstPins, numbered, room}
 
 -- 2^i below and at 4
 pub small : (i : ℕ) → i < 4 → 2 ^ i ≤ 8
@@ -44,3 +32,28 @@ four-of (a ∷ b ∷ []) h = absurd (omega arith)
 four-of (a ∷ b ∷ c ∷ []) h = absurd (omega arith)
 four-of (a ∷ b ∷ c ∷ d ∷ []) h = refl
 four-of (a ∷ b ∷ c ∷ d ∷ e ∷ ws) h = absurd (omega arith)
+
+-- with weights 1, 2, 4 and 8 they are all pins of a gate
+pub four-pins : (ws : List ℕ) (k : ℕ) → length ws ≡ 4 → k ≤ 4 → firstPins k ws (1 ∷ 2 ∷ 4 ∷ 8 ∷ []) ≡ numbered 1 (take k ws)
+four-pins ws k h l = rw (four-of ws h) (go k l)
+  where
+    go : (i : ℕ) → i ≤ 4
+        → firstPins i (getD ws 0 0 ∷ getD ws 1 0 ∷ getD ws 2 0 ∷ getD ws 3 0 ∷ []) (1 ∷ 2 ∷ 4 ∷ 8 ∷ [])
+        ≡ numbered 1 (take i (getD ws 0 0 ∷ getD ws 1 0 ∷ getD ws 2 0 ∷ getD ws 3 0 ∷ []))
+    go zero l = refl
+    go (suc zero) l = refl
+    go (suc (suc zero)) l = refl
+    go (suc (suc (suc zero))) l = refl
+    go (suc (suc (suc (suc zero)))) l = refl
+    go (suc (suc (suc (suc (suc i))))) l = absurd (omega arith)
+
+pub four-room : (ws : List ℕ) (k : ℕ) → length ws ≡ 4 → k ≤ 4 → 0 + room (numbered 1 (take k ws)) ≤ 15
+four-room ws k h l = rw (four-of ws h) (go k l)
+  where
+    go : (i : ℕ) → i ≤ 4 → 0 + room (numbered 1 (take i (getD ws 0 0 ∷ getD ws 1 0 ∷ getD ws 2 0 ∷ getD ws 3 0 ∷ []))) ≤ 15
+    go zero l = omega arith
+    go (suc zero) l = omega arith
+    go (suc (suc zero)) l = omega arith
+    go (suc (suc (suc zero))) l = omega arith
+    go (suc (suc (suc (suc zero)))) l = omega arith
+    go (suc (suc (suc (suc (suc i))))) l = absurd (omega arith)

@@ -8,7 +8,7 @@ use lib.Dec.{eqb}
 use lib.ListN.{length, getD, length-map}
 use Rattle.rounding.proofs.Laws.{blend-at-most}
 use Rattle.figure.specs.Figure.{bitOf, indexOf, invertIf, inverted, interleave, errorPatterns, answer, difference, startValues, foldStep, foldPins, gateStep, gateFailure, outputStep, rightOf, failureOf, gateWord}
-use Rattle.figure.specs.Steps.{spreadStep, spreadPin, spreadPins, differs, lastValue}
+use Rattle.figure.specs.Steps.{Pin, numbered, spreadStep, spreadPins, differs, lastValue, rightIndex, rightBit, pinsWord}
 use Rattle.figure.proofs.Under.{Under, under-fold, under-choices}
 
 fold-at-most : (u : ℕ) → 0 < u → (fs xs : List ℕ) → Under u 0 fs → Under u 0 xs → foldPins u fs xs ≤ u
@@ -102,7 +102,7 @@ side D p x add e w ws h (es ∷ E) =
 
 -- the indices worked out pin by pin are those of the error patterns, in their order
 spread-at : (D : ℕ → ℕ) (p x : ℕ) (ws : List ℕ)
-    → map D (spreadPins p ws (x ∷ [])) ≡ map (λ (es : List Bool). D (at p x ws es)) (errorPatterns (length ws))
+    → map D (spreadPins (numbered p ws) (x ∷ [])) ≡ map (λ (es : List Bool). D (at p x ws es)) (errorPatterns (length ws))
 spread-at D p x [] =
     let none : x ≡ x + p * 0 = omega arith in
     ap (λ (y : ℕ). D y ∷ []) none
@@ -110,7 +110,7 @@ spread-at D p x (w ∷ ws) =
     let E = errorPatterns (length ws) in
     let right = w % 2 * p in
     let wrong = p - w % 2 * p in
-    map-spread D right wrong (spreadPins (2 * p) ws (x ∷ []))
+    map-spread D right wrong (spreadPins (numbered (2 * p) ws) (x ∷ []))
     ∙ ap₂ interleave
     (spread-at (λ y. D (y + right)) (2 * p) x ws ∙ side D p x right false w ws (ap (λ (b : ℕ). b * p) (sym (bit-odd w))) E)
     (spread-at (λ y. D (y + wrong)) (2 * p) x ws ∙ side D p x wrong true w ws (bit-wrong w p) E)
@@ -127,14 +127,38 @@ at-index u table ws es =
     (ap (λ (x : ℕ). eqb (table / 2 ^ x % 2) (table / 2 ^ indexOf vs % 2)) here
     ∙ sym (beq-odd (table / 2 ^ indexOf (inverted vs es) % 2) (table / 2 ^ indexOf vs % 2) (omega arith) (omega arith)))
 
+numbered-failures : (p : ℕ) (ws : List ℕ) → map (λ (q : Pin). failureOf (q .word)) (numbered p ws) ≡ map failureOf ws
+numbered-failures p [] = refl
+numbered-failures p (w ∷ ws) = ap (λ (fs : List ℕ). failureOf w ∷ fs) (numbered-failures (2 * p) ws)
+
+numbered-index : (x p : ℕ) (ws : List ℕ) → rightIndex x (numbered p ws) ≡ x + p * indexOf (map rightOf ws)
+numbered-index x p [] = omega arith
+numbered-index x p (w ∷ ws) =
+    omega (arith, numbered-index x (2 * p) ws, ap (λ (b : ℕ). b * p) (bit-odd w))
+
+-- the index where every pin is right
+right-index : (ws : List ℕ) → rightIndex 0 (numbered 1 ws) ≡ indexOf (map rightOf ws)
+right-index ws = numbered-index 0 1 ws ∙ omega arith
+
 -- the code's last value is steps 1 and 2 of the figures
 pub last-is : (u table right : ℕ) (ws : List ℕ) → right ≡ table / 2 ^ indexOf (map rightOf ws) % 2
-    → lastValue u table right ws ≡ foldPins u (map failureOf ws) (startValues u table (map rightOf ws))
+    → lastValue u table right 0 (numbered 1 ws) ≡ foldPins u (map failureOf ws) (startValues u table (map rightOf ws))
 unfolding lastValue startValues
 last-is u table right ws e =
     let vs = map rightOf ws in
-    ap (foldPins u (map failureOf ws))
-    (ap (λ (r : ℕ). map (differs u table r) (spreadPins 1 ws (0 ∷ []))) e
+    ap (λ (fs : List ℕ). foldPins u fs (map (differs u table right) (spreadPins (numbered 1 ws) (0 ∷ [])))) (numbered-failures 1 ws)
+    ∙ ap (foldPins u (map failureOf ws))
+    (ap (λ (r : ℕ). map (differs u table r) (spreadPins (numbered 1 ws) (0 ∷ []))) e
     ∙ spread-at (differs u table (table / 2 ^ indexOf vs % 2)) 1 0 ws
     ∙ ap (λ (f : List Bool → ℕ). map f (errorPatterns (length ws))) (fun-ext (λ es. at-index u table ws es))
     ∙ ap (λ (n : ℕ). map (difference u table vs) (errorPatterns n)) (sym (length-map ws rightOf)))
+
+-- the word that the code makes of all pins is the gate's
+pub word-is : (u table flip : ℕ) (ws : List ℕ) → pinsWord u table 0 (numbered 1 ws) flip ≡ gateWord u table ws flip
+unfolding pinsWord gateWord gateFailure answer
+word-is u table flip ws =
+    let bit : rightBit table 0 (numbered 1 ws) ≡ table / 2 ^ indexOf (map rightOf ws) % 2
+    = ap (λ (i : ℕ). table / 2 ^ i % 2) (right-index ws) in
+    ap₂ (λ (m b : ℕ). 2 * gateStep u m flip + b)
+    (last-is u table (rightBit table 0 (numbered 1 ws)) ws bit)
+    (bit ∙ sym (bit-odd (table / 2 ^ indexOf (map rightOf ws))))

@@ -4,3 +4,4 @@ pub mod Spread
 pub mod Under
 pub mod Laws
 pub mod Index
+pub mod Split

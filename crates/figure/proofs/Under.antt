@@ -10,7 +10,7 @@ use lib.Seq.{getD-take, take-nil}
 use Rattle.rounding.specs.Rounding.{blend}
 use Rattle.rounding.proofs.Laws.{blend-at-most}
 use Rattle.figure.specs.Figure.{foldStep}
-use Rattle.figure.specs.Steps.{spreadStep, spreadPin, spreadPins}
+use Rattle.figure.specs.Steps.{Pin, room, spreadStep, spreadPin, spreadPins}
 
 -- every element, and the 0 past the end, keeps the bound b after r is added
 abbrev pub Under : ℕ → ℕ → List ℕ → Type 0
@@ -56,19 +56,15 @@ under-choices u test (e ∷ es) (suc i) = under-choices u test es i
 pub part₀ : (b : ℕ) (xs ys : List ℕ) (n : ℕ) → take n xs ≡ ys → Under b 0 ys → (i : ℕ) → i < n → getD xs i 0 ≤ b
 part₀ b xs ys n e h i l = omega (arith, part b 0 xs ys n e h i l)
 
--- what pins add to an index at the most, the first with this weight
-abbrev pub room : ℕ → List ℕ → ℕ
-room weight [] = 0
-room weight (w ∷ ws) = weight + room (2 * weight) ws
+under-one : (b r x : ℕ) → x + r ≤ b → Under b r (x ∷ [])
+under-one b r x h zero = h
+under-one b r x h (suc i) = omega arith
 
-under-none : (b r : ℕ) → r ≤ b → Under b r (0 ∷ [])
-under-none b r h zero = omega arith
-under-none b r h (suc i) = omega arith
-
-pub under-pins : (b r weight : ℕ) (ws : List ℕ) → room weight ws + r ≤ b → Under b r (spreadPins weight ws (0 ∷ []))
-under-pins b r weight [] h = under-none b r (omega arith)
-under-pins b r weight (w ∷ ws) h =
-    under-pin b r w weight (spreadPins (2 * weight) ws (0 ∷ [])) (under-pins b (weight + r) (2 * weight) ws (omega arith))
+-- indices that pins spread from `start`
+pub under-pins : (b r start : ℕ) (ps : List Pin) → start + room ps + r ≤ b → Under b r (spreadPins ps (start ∷ []))
+under-pins b r start [] h = under-one b r start (omega arith)
+under-pins b r start (p ∷ ps) h =
+    under-pin b r (p .word) (p .weight) (spreadPins ps (start ∷ [])) (under-pins b (p .weight + r) start ps (omega arith))
 
 -- what holds of 0 and of the first n elements holds of every element of the part
 pub all-take : (P : ℕ → Type 0) → P 0 → (xs : List ℕ) (n : ℕ) → ((i : ℕ) → i < n → P (getD xs i 0)) → (i : ℕ) → P (getD (take n xs) i 0)

@@ -1,29 +1,68 @@
--- What the code's own steps mean: the table's indices under all error patterns, worked out pin by pin, and the values that start there. The
--- public promises are in Figure.antt; the laws in proofs/ show that both come to the same figure.
+-- What the code's own steps mean: the table's indices under all error patterns, worked out pin by pin, the values that start there, and the word that
+-- comes of them. The public promises are in Figure.antt; the laws in proofs/ show that both come to the same word.
 use Prim.Native.Nat.{ℕ, _+_, _-_, _*_, _/_, _%_, _^_}
 use mathlib.Core.Bool.{cond}
 use mathlib.Core.List.{List, [], _∷_, map}
 use lib.Dec.{eqb}
-use Rattle.figure.specs.Figure.{failureOf, foldPins}
+use lib.ListN.{take}
+use Rattle.figure.specs.Figure.{failureOf, foldPins, gateStep}
+
+-- a pin as the fold sees it: its source's word, and what it adds to the table's index where its value is 1
+pub record Pin : Type 0 where
+  pub word : ℕ
+  pub weight : ℕ
+
+-- pins from their words and weights, pin by pin
+abbrev pub pinsOf : List ℕ → List ℕ → List Pin
+pinsOf [] weights = []
+pinsOf (w ∷ words) [] = []
+pinsOf (w ∷ words) (a ∷ weights) = record { word = w; weight = a } ∷ pinsOf words weights
+
+-- all pins of a gate with these words: each weighs twice as much as the one before it
+abbrev pub numbered : ℕ → List ℕ → List Pin
+numbered weight [] = []
+numbered weight (w ∷ words) = record { word = w; weight = weight } ∷ numbered (2 * weight) words
+
+-- the first `count` pins of two arrays
+abbrev pub firstPins : ℕ → List ℕ → List ℕ → List Pin
+firstPins count words weights = pinsOf (take count words) (take count weights)
+
+-- what pins add to an index at the most
+abbrev pub room : List Pin → ℕ
+room [] = 0
+room (p ∷ ps) = p .weight + room ps
 
 -- each index becomes two: the pin right, the pin wrong
 abbrev pub spreadStep : ℕ → ℕ → List ℕ → List ℕ
 spreadStep right wrong [] = []
 spreadStep right wrong (x ∷ xs) = (x + right) ∷ (x + wrong) ∷ spreadStep right wrong xs
 
--- a pin with this word adds `weight` to the index where its value is 1
 abbrev pub spreadPin : ℕ → ℕ → List ℕ → List ℕ
 spreadPin word weight xs = spreadStep (word % 2 * weight) (weight - word % 2 * weight) xs
 
 -- the last pin first, so that pin 0 is the lowest bit of a place
-abbrev pub spreadPins : ℕ → List ℕ → List ℕ → List ℕ
-spreadPins weight [] xs = xs
-spreadPins weight (w ∷ ws) xs = spreadPin w weight (spreadPins (2 * weight) ws xs)
+abbrev pub spreadPins : List Pin → List ℕ → List ℕ
+spreadPins [] xs = xs
+spreadPins (p ∷ ps) xs = spreadPin (p .word) (p .weight) (spreadPins ps xs)
 
 -- step 1 at one index: u where the table's bit there is not the right answer
 abbrev pub differs : ℕ → ℕ → ℕ → ℕ → ℕ
 differs u table right x = cond (eqb (table / 2 ^ x % 2) right) 0 u
 
--- the last value of the fold for pins with these words
-unfoldable pub lastValue : ℕ → ℕ → ℕ → List ℕ → ℕ
-lastValue u table right ws = foldPins u (map failureOf ws) (map (differs u table right) (spreadPins 1 ws (0 ∷ [])))
+-- the last value of the fold for these pins, from the index `start`
+unfoldable pub lastValue : ℕ → ℕ → ℕ → ℕ → List Pin → ℕ
+lastValue u table right start ps =
+    foldPins u (map (λ (p : Pin). failureOf (p .word)) ps) (map (differs u table right) (spreadPins ps (start ∷ [])))
+
+-- the index where every pin is right, and the table's bit there
+abbrev pub rightIndex : ℕ → List Pin → ℕ
+rightIndex start [] = start
+rightIndex start (p ∷ ps) = rightIndex start ps + p .word % 2 * p .weight
+
+abbrev pub rightBit : ℕ → ℕ → List Pin → ℕ
+rightBit table start ps = table / 2 ^ rightIndex start ps % 2
+
+-- a gate's word from its table, the index that pins which cannot fail come to, the other pins, and its flip
+unfoldable pub pinsWord : ℕ → ℕ → ℕ → List Pin → ℕ → ℕ
+pinsWord u table start ps flip =
+    2 * gateStep u (lastValue u table (rightBit table start ps) start ps) flip + rightBit table start ps

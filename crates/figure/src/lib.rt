@@ -1,14 +1,15 @@
 // A gate's figures: the fold of the sixteen values, the gate step and the output product.
 //
 // A source is read as one word, 2 × failure + right value. The fold is written out for each pin count, with every count in a call a constant,
-// so that the compiler unrolls the steps and keeps the sixteen values in registers.
+// so that the compiler unrolls the steps and keeps the sixteen values in registers. A pin that cannot fail need not be folded: it only moves the
+// index that the others start from.
 ghost use mathlib.Core.Path.{_≡_};
 ghost use mathlib.Core.List.{[], _∷_, map};
 ghost use Prim.Native.Nat.{ℕ, _+_, _*_, _/_, _%_, _^_, _<_, _≤_};
 ghost use lib.ListN.{getD, take};
 ghost use Rattle.rounding.specs.Rounding.{unitsInOne};
-ghost use Rattle.figure.specs.Figure.{indexOf, foldStep, gateStep, outputStep, rightOf, gateWord};
-ghost use Rattle.figure.specs.Steps.{spreadPin, differs, lastValue};
+ghost use Rattle.figure.specs.Figure.{foldStep, gateStep, outputStep, gateWord};
+ghost use Rattle.figure.specs.Steps.{firstPins, room, spreadPin, differs, pinsWord};
 
 // Each of the first `used` indices becomes two: the pin right, the pin wrong. The pin adds `weight` to an index where its value is 1.
 fn spread_pin(indices: [u32; 16], used: usize, word: u32, weight: u32) -> [u32; 16]
@@ -72,59 +73,6 @@ pub fn fold_step(values: [u64; 16], half: usize, failure: u64) -> [u64; 16]
     values
 }
 
-// Steps 1 and 2 for one, two, three and four pins with these words.
-fn fold_one(table: u32, right: u32, w0: u32) -> u64
-    requires { ⌜ w0 / 2 ≤ unitsInOne ⌝ }
-    ensures { λ r. ⌜ r ≡ lastValue unitsInOne table right (w0 ∷ []) ⌝ }
-{
-    let at = spread_pin([0; 16], 1, w0, 1);
-    let values = start_values(table, right, at, 2);
-    let values = fold_step(values, 1, (w0 / 2) as u64);
-    values[0]
-}
-
-fn fold_two(table: u32, right: u32, w0: u32, w1: u32) -> u64
-    requires { ⌜ (w0 / 2 ≤ unitsInOne) × (w1 / 2 ≤ unitsInOne) ⌝ }
-    ensures { λ r. ⌜ r ≡ lastValue unitsInOne table right (w0 ∷ w1 ∷ []) ⌝ }
-{
-    let at = spread_pin([0; 16], 1, w1, 2);
-    let at = spread_pin(at, 2, w0, 1);
-    let values = start_values(table, right, at, 4);
-    let values = fold_step(values, 2, (w0 / 2) as u64);
-    let values = fold_step(values, 1, (w1 / 2) as u64);
-    values[0]
-}
-
-fn fold_three(table: u32, right: u32, w0: u32, w1: u32, w2: u32) -> u64
-    requires { ⌜ (w0 / 2 ≤ unitsInOne) × (w1 / 2 ≤ unitsInOne) × (w2 / 2 ≤ unitsInOne) ⌝ }
-    ensures { λ r. ⌜ r ≡ lastValue unitsInOne table right (w0 ∷ w1 ∷ w2 ∷ []) ⌝ }
-{
-    let at = spread_pin([0; 16], 1, w2, 4);
-    let at = spread_pin(at, 2, w1, 2);
-    let at = spread_pin(at, 4, w0, 1);
-    let values = start_values(table, right, at, 8);
-    let values = fold_step(values, 4, (w0 / 2) as u64);
-    let values = fold_step(values, 2, (w1 / 2) as u64);
-    let values = fold_step(values, 1, (w2 / 2) as u64);
-    values[0]
-}
-
-fn fold_four(table: u32, right: u32, w0: u32, w1: u32, w2: u32, w3: u32) -> u64
-    requires { ⌜ (w0 / 2 ≤ unitsInOne) × (w1 / 2 ≤ unitsInOne) × (w2 / 2 ≤ unitsInOne) × (w3 / 2 ≤ unitsInOne) ⌝ }
-    ensures { λ r. ⌜ r ≡ lastValue unitsInOne table right (w0 ∷ w1 ∷ w2 ∷ w3 ∷ []) ⌝ }
-{
-    let at = spread_pin([0; 16], 1, w3, 8);
-    let at = spread_pin(at, 2, w2, 4);
-    let at = spread_pin(at, 4, w1, 2);
-    let at = spread_pin(at, 8, w0, 1);
-    let values = start_values(table, right, at, 16);
-    let values = fold_step(values, 8, (w0 / 2) as u64);
-    let values = fold_step(values, 4, (w1 / 2) as u64);
-    let values = fold_step(values, 2, (w2 / 2) as u64);
-    let values = fold_step(values, 1, (w3 / 2) as u64);
-    values[0]
-}
-
 // Step 3 of the figures, the gate step: from the last value and the flip.
 pub fn gate_step(last: u64, flip: u64) -> u64
     requires { ⌜ last ≤ unitsInOne ⌝ }
@@ -143,35 +91,156 @@ pub fn output_step(reliability: u64, failure: u64) -> u64
     rounding::blended(reliability, 0, failure)
 }
 
-// The table's index where every pin is right.
-fn right_index(words: [u32; 4], count: usize) -> u32
-    requires { ⌜ count ≤ 4 ⌝ }
-    ensures { λ r. ⌜ (r ≡ indexOf (map rightOf (take count words))) × (r ≤ 15) ⌝ }
+// A gate's word, 2 × failure + right value, from the last value, the flip and the right answer.
+fn word_of(last: u64, flip: u32, right: u32) -> u32
+    requires { ⌜ (last ≤ unitsInOne) × (flip ≤ unitsInOne) × (right ≤ 1) ⌝ }
+    ensures { λ r. ⌜ r ≡ 2 * gateStep unitsInOne last flip + right ⌝ }
 {
-    let mut index = 0;
-    let mut weight = 1;
-    let mut i = 0;
-    while i < count {
-        index += words[i] % 2 * weight;
-        weight *= 2;
-        i += 1;
-    }
-    index
+    let failure = gate_step(last, flip as u64);
+    2 * (failure as u32) + right
 }
 
-// Steps 1 and 2 for the first `count` words.
-fn last_value(table: u32, right: u32, count: usize, words: [u32; 4]) -> u64
-    requires { ⌜ count ≤ 4 ⌝ }
+// A gate's word where no pin can fail: the right answer, and the flip for its failure.
+pub fn word_none(table: u32, start: u32, flip: u32) -> u32
+    requires { ⌜ (start ≤ 15) × (flip ≤ unitsInOne) ⌝ }
+    ensures { λ r. ⌜ r ≡ pinsWord unitsInOne table start [] flip ⌝ }
+{
+    word_of(0, flip, (table >> start) % 2)
+}
+
+// A gate's word where one, two, three and four pins may fail: w is a pin's word, a its weight.
+pub fn word_one(table: u32, start: u32, w0: u32, a0: u32, flip: u32) -> u32
+    requires { ⌜ (start + a0 ≤ 15) × (flip ≤ unitsInOne) ⌝ }
+    requires { ⌜ (w0 / 2 ≤ unitsInOne) ⌝ }
+    ensures { λ r. ⌜ r ≡ pinsWord unitsInOne table start (record { word = w0; weight = a0 } ∷ []) flip ⌝ }
+{
+    let at = spread_pin([start; 16], 1, w0, a0);
+    let right = (table >> at[0]) % 2;
+    let values = start_values(table, right, at, 2);
+    let values = fold_step(values, 1, (w0 / 2) as u64);
+    word_of(values[0], flip, right)
+}
+
+pub fn word_two(table: u32, start: u32, w0: u32, a0: u32, w1: u32, a1: u32, flip: u32) -> u32
+    requires { ⌜ (start + a0 + a1 ≤ 15) × (flip ≤ unitsInOne) ⌝ }
+    requires { ⌜ (w0 / 2 ≤ unitsInOne) × (w1 / 2 ≤ unitsInOne) ⌝ }
+    ensures { λ r. ⌜ r ≡ pinsWord unitsInOne table start (record { word = w0; weight = a0 } ∷ record { word = w1; weight = a1 } ∷ []) flip ⌝ }
+{
+    let at = spread_pin([start; 16], 1, w1, a1);
+    let at = spread_pin(at, 2, w0, a0);
+    let right = (table >> at[0]) % 2;
+    let values = start_values(table, right, at, 4);
+    let values = fold_step(values, 2, (w0 / 2) as u64);
+    let values = fold_step(values, 1, (w1 / 2) as u64);
+    word_of(values[0], flip, right)
+}
+
+pub fn word_three(
+    table: u32,
+    start: u32,
+    w0: u32,
+    a0: u32,
+    w1: u32,
+    a1: u32,
+    w2: u32,
+    a2: u32,
+    flip: u32,
+) -> u32
+    requires { ⌜ (start + a0 + a1 + a2 ≤ 15) × (flip ≤ unitsInOne) ⌝ }
+    requires { ⌜ (w0 / 2 ≤ unitsInOne) × (w1 / 2 ≤ unitsInOne) × (w2 / 2 ≤ unitsInOne) ⌝ }
+    ensures { λ r. ⌜ r ≡ pinsWord unitsInOne table start (record { word = w0; weight = a0 } ∷ record { word = w1; weight = a1 } ∷ record { word = w2; weight = a2 } ∷ []) flip ⌝ }
+{
+    let at = spread_pin([start; 16], 1, w2, a2);
+    let at = spread_pin(at, 2, w1, a1);
+    let at = spread_pin(at, 4, w0, a0);
+    let right = (table >> at[0]) % 2;
+    let values = start_values(table, right, at, 8);
+    let values = fold_step(values, 4, (w0 / 2) as u64);
+    let values = fold_step(values, 2, (w1 / 2) as u64);
+    let values = fold_step(values, 1, (w2 / 2) as u64);
+    word_of(values[0], flip, right)
+}
+
+pub fn word_four(
+    table: u32,
+    start: u32,
+    w0: u32,
+    a0: u32,
+    w1: u32,
+    a1: u32,
+    w2: u32,
+    a2: u32,
+    w3: u32,
+    a3: u32,
+    flip: u32,
+) -> u32
+    requires { ⌜ (start + a0 + a1 + a2 + a3 ≤ 15) × (flip ≤ unitsInOne) ⌝ }
+    requires { ⌜ (w0 / 2 ≤ unitsInOne) × (w1 / 2 ≤ unitsInOne) × (w2 / 2 ≤ unitsInOne) × (w3 / 2 ≤ unitsInOne) ⌝ }
+    ensures { λ r. ⌜ r ≡ pinsWord unitsInOne table start (record { word = w0; weight = a0 } ∷ record { word = w1; weight = a1 } ∷ record { word = w2; weight = a2 } ∷ record { word = w3; weight = a3 } ∷ []) flip ⌝ }
+{
+    let at = spread_pin([start; 16], 1, w3, a3);
+    let at = spread_pin(at, 2, w2, a2);
+    let at = spread_pin(at, 4, w1, a1);
+    let at = spread_pin(at, 8, w0, a0);
+    let right = (table >> at[0]) % 2;
+    let values = start_values(table, right, at, 16);
+    let values = fold_step(values, 8, (w0 / 2) as u64);
+    let values = fold_step(values, 4, (w1 / 2) as u64);
+    let values = fold_step(values, 2, (w2 / 2) as u64);
+    let values = fold_step(values, 1, (w3 / 2) as u64);
+    word_of(values[0], flip, right)
+}
+
+// A gate's word where the first `count` pins of these words and weights may fail.
+pub fn pins_word(
+    table: u32,
+    start: u32,
+    count: usize,
+    words: [u32; 4],
+    weights: [u32; 4],
+    flip: u32,
+) -> u32
+    requires { ⌜ (count ≤ 4) × (flip ≤ unitsInOne) ⌝ }
+    requires { ⌜ start + room (firstPins count words weights) ≤ 15 ⌝ }
     requires { ⌜ ((i : ℕ) → i < count → getD words i 0 / 2 ≤ unitsInOne) ⌝ }
-    requires { ⌜ right ≡ table / 2 ^ indexOf (map rightOf (take count words)) % 2 ⌝ }
-    ensures { λ r. ⌜ r ≡ lastValue unitsInOne table right (take count words) ⌝ }
+    ensures { λ r. ⌜ r ≡ pinsWord unitsInOne table start (firstPins count words weights) flip ⌝ }
 {
     match count {
-        0 => 0,
-        1 => fold_one(table, right, words[0]),
-        2 => fold_two(table, right, words[0], words[1]),
-        3 => fold_three(table, right, words[0], words[1], words[2]),
-        _ => fold_four(table, right, words[0], words[1], words[2], words[3]),
+        0 => word_none(table, start, flip),
+        1 => word_one(table, start, words[0], weights[0], flip),
+        2 => word_two(
+            table,
+            start,
+            words[0],
+            weights[0],
+            words[1],
+            weights[1],
+            flip,
+        ),
+        3 => word_three(
+            table,
+            start,
+            words[0],
+            weights[0],
+            words[1],
+            weights[1],
+            words[2],
+            weights[2],
+            flip,
+        ),
+        _ => word_four(
+            table,
+            start,
+            words[0],
+            weights[0],
+            words[1],
+            weights[1],
+            words[2],
+            weights[2],
+            words[3],
+            weights[3],
+            flip,
+        ),
     }
 }
 
@@ -181,9 +250,5 @@ pub fn gate_word(table: u32, count: usize, words: [u32; 4], flip: u32) -> u32
     requires { ⌜ ((i : ℕ) → i < count → getD words i 0 / 2 ≤ unitsInOne) ⌝ }
     ensures { λ r. ⌜ r ≡ gateWord unitsInOne table (take count words) flip ⌝ }
 {
-    let index = right_index(words, count);
-    let right = (table >> index) % 2;
-    let last = last_value(table, right, count, words);
-    let failure = gate_step(last, flip as u64);
-    2 * (failure as u32) + right
+    pins_word(table, 0, count, words, [1, 2, 4, 8], flip)
 }
