@@ -1,13 +1,16 @@
 -- Pins that cannot fail need no fold: they only move the index that the others start from. Assumes nothing.
-use Prim.Native.Nat.{ℕ, _+_, _-_, _*_, _/_, _%_, _^_, _<_}
+use Prim.Native.Nat.{ℕ, _+_, _-_, _*_, _/_, _%_, _^_, _≤_, _<_}
 use mathlib.Core.List.{List, [], _∷_, _++_, map, append-assoc}
-use mathlib.Core.Path.{_≡_, refl, sym, ap, ap₂, _∙_, fun-ext}
+use mathlib.Core.Path.{_≡_, refl, sym, ap, ap₂, subst, _∙_, fun-ext}
+use native.Mathlib.Numerals.{add-one}
 use native.Mathlib.Omega.{arith}
-use lib.ListN.{getD}
+use lib.ListN.{length, getD, take, drop, set, drop-of-length-le}
+use lib.Seq.{drop-cons, take-suc-set, length-take-le}
 use Rattle.rounding.specs.Rounding.{unitsInOne, blend}
 use Rattle.rounding.proofs.Laws.{blend-none}
 use Rattle.figure.specs.Figure.{failureOf, foldStep, foldPins, gateStep, gateWord}
-use Rattle.figure.specs.Steps.{Pin, numbered, spreadStep, spreadPins, differs, lastValue, rightIndex, rightBit, pinsWord}
+use Rattle.figure.specs.Steps.{Pin, pinsOf, numbered, firstPins, room, spreadStep, spreadPins, differs, lastValue, rightIndex, rightBit, pinsWord, Split}
+use Rattle.figure.proofs.Under.{added}
 use Rattle.figure.proofs.Laws.{word-is}
 
 -- what a pin adds to an index where it is right, and where it is wrong
@@ -92,26 +95,90 @@ spread-first (p ∷ ps) x =
 pub first-index : (ps : List Pin) (x : ℕ) → getD (spreadPins ps (x ∷ [])) 0 0 ≡ rightIndex x ps
 first-index ps x = ap (λ (xs : List ℕ). getD xs 0 0) (spread-first ps x .1)
 
--- ---- a gate's pins gone through one by one: those kept so far and those to come make the gate's word from `start`
+-- ---- a gate's pins gone through one by one: those kept so far, and then those to come
 
-abbrev pub Stands : List ℕ → ℕ → List Pin → List Pin → Type 0
-Stands words start kept rest = (table flip : ℕ) → pinsWord unitsInOne table start (kept ++ rest) flip ≡ gateWord unitsInOne table words flip
+room-append : (ps qs : List Pin) → room (ps ++ qs) ≡ room ps + room qs
+room-append [] qs = omega arith
+room-append (p ∷ ps) qs = omega (arith, room-append ps qs)
 
-pub stands-first : (words : List ℕ) → Stands words 0 [] (numbered 1 words)
-stands-first words table flip = word-is unitsInOne table flip words
+numbered-room : (words : List ℕ) → length words ≤ 4 → room (numbered 1 words) ≤ 15
+numbered-room [] l = omega arith
+numbered-room (a ∷ []) l = omega arith
+numbered-room (a ∷ b ∷ []) l = omega arith
+numbered-room (a ∷ b ∷ c ∷ []) l = omega arith
+numbered-room (a ∷ b ∷ c ∷ d ∷ []) l = omega arith
+numbered-room (a ∷ b ∷ c ∷ d ∷ e ∷ words) l = absurd (omega arith)
 
-pub stands-without : (words : List ℕ) (start : ℕ) (kept rest : List Pin) (p : Pin) → failureOf (p .word) ≡ 0 → Stands words start kept (p ∷ rest)
-    → Stands words (start + p .word % 2 * p .weight) kept rest
-stands-without words start kept rest p sure h table flip = sym (without unitsInOne (omega arith) p sure table start flip kept rest) ∙ h table flip
+-- before the first pin
+pub split-first : (words : List ℕ) → length words ≤ 4 → Split words 0 (numbered 1 words)
+split-first words l =
+    record { fits = omega (arith, numbered-room words l); word = λ table flip. word-is unitsInOne table flip words }
 
-pub stands-kept : (words : List ℕ) (start : ℕ) (kept rest : List Pin) (p : Pin) → Stands words start kept (p ∷ rest) → Stands words start (kept ++ (p ∷ [])) rest
-stands-kept words start kept rest p h table flip =
-    ap (λ (ps : List Pin). pinsWord unitsInOne table start ps flip) (append-assoc kept (p ∷ []) rest) ∙ h table flip
+-- the next pin to come
+numbered-next : (R : ℕ → ℕ) (sources : List ℕ) (i weight : ℕ) → i < length sources
+    → numbered weight (map R (drop i sources))
+    ≡ record { word = R (getD sources i 0); weight = weight } ∷ numbered (2 * weight) (map R (drop (i + 1) sources))
+numbered-next R sources i weight l = rw (add-one i) (ap (λ (xs : List ℕ). numbered weight (map R xs)) (drop-cons sources i 0 l))
 
-pub stands-last : (words : List ℕ) (start : ℕ) (kept : List Pin) → Stands words start kept []
-    → (table flip : ℕ) → pinsWord unitsInOne table start kept flip ≡ gateWord unitsInOne table words flip
-stands-last words start kept h table flip = ap (λ (ps : List Pin). pinsWord unitsInOne table start ps flip) (sym (append-none kept)) ∙ h table flip
-  where
-    append-none : (ps : List Pin) → ps ++ [] ≡ ps
-    append-none [] = refl
-    append-none (p ∷ ps) = ap (λ (qs : List Pin). p ∷ qs) (append-none ps)
+module _ (words : List ℕ) (R : ℕ → ℕ) (sources : List ℕ) (i weight start : ℕ) (kept : List Pin) (l : i < length sources)
+    (before : Split words start (kept ++ numbered weight (map R (drop i sources)))) where
+  next : Pin
+  next = record { word = R (getD sources i 0); weight = weight }
+
+  others : List Pin
+  others = numbered (2 * weight) (map R (drop (i + 1) sources))
+
+  now : Split words start (kept ++ (next ∷ others))
+  unfolding next others
+  now = subst (λ (ps : List Pin). Split words start (kept ++ ps)) (numbered-next R sources i weight l) before
+
+  -- it has room for what is to come
+  pub split-room : weight ≤ 15
+  unfolding next others
+  split-room = omega (arith, now .fits, room-append kept (next ∷ others))
+
+  -- a pin that cannot fail is left out
+  pub split-without : failureOf (R (getD sources i 0)) ≡ 0
+      → Split words (start + R (getD sources i 0) % 2 * weight) (kept ++ numbered (weight * 2) (map R (drop (i + 1) sources)))
+  unfolding next others
+  split-without sure =
+      let twice : 2 * weight ≡ weight * 2 = omega arith in
+      subst (λ (a : ℕ). Split words (start + R (getD sources i 0) % 2 * weight) (kept ++ numbered a (map R (drop (i + 1) sources)))) twice
+      (record {
+        fits = omega (arith, now .fits, room-append kept (next ∷ others), room-append kept others, added (R (getD sources i 0)) weight);
+        word = λ table flip. sym (without unitsInOne (omega arith) next sure table start flip kept others) ∙ now .word table flip;
+      })
+
+  -- any other is kept
+  pub split-kept : Split words start ((kept ++ (record { word = R (getD sources i 0); weight = weight } ∷ [])) ++ numbered (weight * 2) (map R (drop (i + 1) sources)))
+  unfolding next others
+  split-kept =
+      let twice : 2 * weight ≡ weight * 2 = omega arith in
+      subst (λ (a : ℕ). Split words start ((kept ++ (next ∷ [])) ++ numbered a (map R (drop (i + 1) sources)))) twice
+      (subst (Split words start) (sym (append-assoc kept (next ∷ []) others)) now)
+
+append-none : (ps : List Pin) → ps ++ [] ≡ ps
+append-none [] = refl
+append-none (p ∷ ps) = ap (λ (qs : List Pin). p ∷ qs) (append-none ps)
+
+-- after the last
+pub split-last : (words : List ℕ) (R : ℕ → ℕ) (sources : List ℕ) (i weight start : ℕ) (kept : List Pin) → length sources ≤ i
+    → Split words start (kept ++ numbered weight (map R (drop i sources))) → Split words start kept
+split-last words R sources i weight start kept l before =
+    subst (Split words start)
+    (ap (λ (xs : List ℕ). kept ++ numbered weight (map R xs)) (drop-of-length-le sources l) ∙ append-none kept)
+    before
+
+-- a pin more in two arrays
+pins-append : (xs ys : List ℕ) (x y : ℕ) → length xs ≡ length ys → pinsOf (xs ++ (x ∷ [])) (ys ++ (y ∷ [])) ≡ pinsOf xs ys ++ (record { word = x; weight = y } ∷ [])
+pins-append [] [] x y e = refl
+pins-append [] (b ∷ ys) x y e = absurd (omega arith)
+pins-append (a ∷ xs) [] x y e = absurd (omega arith)
+pins-append (a ∷ xs) (b ∷ ys) x y e = ap (λ (ps : List Pin). record { word = a; weight = b } ∷ ps) (pins-append xs ys x y (omega arith))
+
+pub first-more : (k : ℕ) (words weights : List ℕ) (w a : ℕ) → k < length words → k < length weights
+    → firstPins (k + 1) (set words k w) (set weights k a) ≡ firstPins k words weights ++ (record { word = w; weight = a } ∷ [])
+first-more k words weights w a l m =
+    rw (add-one k)
+    (ap₂ pinsOf (take-suc-set words k w l) (take-suc-set weights k a m)
+    ∙ pins-append (take k words) (take k weights) w a (length-take-le k words (omega arith) ∙ sym (length-take-le k weights (omega arith))))

@@ -1,11 +1,13 @@
 -- What the code's own steps mean: the table's indices under all error patterns, worked out pin by pin, the values that start there, and the word that
 -- comes of them. The public promises are in Figure.antt; the laws in proofs/ show that both come to the same word.
-use Prim.Native.Nat.{ℕ, _+_, _-_, _*_, _/_, _%_, _^_}
+use Prim.Native.Nat.{ℕ, _+_, _-_, _*_, _/_, _%_, _^_, _≤_}
 use mathlib.Core.Bool.{cond}
 use mathlib.Core.List.{List, [], _∷_, map}
+use mathlib.Core.Path.{_≡_}
 use lib.Dec.{eqb}
 use lib.ListN.{take}
-use Rattle.figure.specs.Figure.{failureOf, foldPins, gateStep}
+use Rattle.rounding.specs.Rounding.{unitsInOne}
+use Rattle.figure.specs.Figure.{failureOf, foldPins, gateStep, gateWord}
 
 -- a pin as the fold sees it: its source's word, and what it adds to the table's index where its value is 1
 pub record Pin : Type 0 where
@@ -66,3 +68,8 @@ rightBit table start ps = table / 2 ^ rightIndex start ps % 2
 unfoldable pub pinsWord : ℕ → ℕ → ℕ → List Pin → ℕ → ℕ
 pinsWord u table start ps flip =
     2 * gateStep u (lastValue u table (rightBit table start ps) start ps) flip + rightBit table start ps
+
+-- these pins from this index make the word of a gate whose pins have these words, whatever its table and flip
+pub record Split (words : List ℕ) (start : ℕ) (ps : List Pin) : Type 0 where
+  pub fits : start + room ps ≤ 15
+  pub word : (table flip : ℕ) → pinsWord unitsInOne table start ps flip ≡ gateWord unitsInOne table words flip
