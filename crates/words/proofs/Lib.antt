@@ -3,3 +3,4 @@ pub mod Pattern
 pub mod Sound
 pub mod Loops
 pub mod Bit
+pub mod Pinned

@@ -2,9 +2,10 @@
 // keeps rule 14 (`Sound`); the calls judge the area first.
 ghost use mathlib.Core.Path.{_≡_};
 ghost use mathlib.Core.List.{map};
-ghost use Prim.Native.Nat.{ℕ, _+_, _-_, _*_, _<_, _≤_};
+ghost use Prim.Native.Nat.{ℕ, _+_, _-_, _*_, _/_, _<_, _≤_};
 ghost use lib.ListN.{length, getD, take, drop};
 ghost use Rattle.rounding.specs.Rounding.{unitsInOne};
+ghost use Rattle.figure.specs.Steps.{firstPins, Split};
 ghost use Rattle.words.specs.Words.{inputs, gates, pattern, pinCount, usedPins, outputWords, sourceWord};
 ghost use Rattle.words.specs.Rules.{Sound};
 ghost use Rattle.words.specs.Work.{gateFigure, workGate, workGates, productFrom, reliabilityNow, workReliability, workAll, readsMarked, workIf, markIf, workMarked, markOf, invertBit, toggleWords, setWords};
@@ -29,20 +30,48 @@ pub fn source_word(area: &[u32], source: usize) -> u32
     }
 }
 
-// The words of the first `count` pins of the gate whose words start at `base`.
-fn pin_words(area: &[u32], base: usize, count: usize) -> [u32; 4]
+// A gate's pins as the fold takes them. An input never fails, so a pin that reads one only moves the index; the others have words and weights.
+pub struct Pins {
+    pub start: u32,
+    pub kept: usize,
+    pub words: [u32; 4],
+    pub weights: [u32; 4],
+}
+
+// The first `count` pins of the gate whose words start at `base`.
+fn split_pins(area: &[u32], base: usize, count: usize) -> Pins
     requires { ⌜ Sound (now area) ⌝ }
     requires { ⌜ (count ≤ 4) × (base + 6 ≤ length (now area)) ⌝ }
     requires { ⌜ ((i : ℕ) → i < count → getD (now area) (base + 2 + i) 0 < inputs (now area) + gates (now area)) ⌝ }
-    ensures { λ r. ⌜ take count r ≡ map (sourceWord (now (area .entry))) (take count (drop (base + 2) (now (area .entry)))) ⌝ }
+    ensures { λ r. ⌜ (r .kept ≤ 4) × ((i : ℕ) → i < r .kept → getD (r .words) i 0 / 2 ≤ unitsInOne) ⌝ }
+    ensures { λ r. ⌜ Split (map (sourceWord (now (area .entry))) (take count (drop (base + 2) (now (area .entry))))) (r .start) (firstPins (r .kept) (r .words) (r .weights)) ⌝ }
 {
+    let n = index(area[0]);
+    let mut start = 0;
+    let mut kept = 0;
     let mut words = [0u32; 4];
+    let mut weights = [0u32; 4];
+    let mut weight = 1;
     let mut i = 0;
     while i < count {
-        words[i] = source_word(area, index(area[base + 2 + i]));
+        let source = index(area[base + 2 + i]);
+        let word = source_word(area, source);
+        if source < n {
+            start += word % 2 * weight;
+        } else {
+            words[kept] = word;
+            weights[kept] = weight;
+            kept += 1;
+        }
+        weight *= 2;
         i += 1;
     }
-    words
+    Pins {
+        start: start,
+        kept: kept,
+        words: words,
+        weights: weights,
+    }
 }
 
 // A gate's figure word by the rule, from the words held.
@@ -52,9 +81,10 @@ pub fn gate_figure(area: &[u32], gate: usize) -> u32
     ensures { λ r. ⌜ r ≡ gateFigure (now (area .entry)) gate ⌝ }
 {
     let base = 8 + 8 * gate;
-    let count = index(area[base]);
-    let words = pin_words(area, base, count);
-    figure::gate_word(area[base + 1], count, words, area[base + 6])
+    let pins = split_pins(area, base, index(area[base]));
+    let words = pins.words;
+    let weights = pins.weights;
+    figure::pins_word(area[base + 1], pins.start, pins.kept, words, weights, area[base + 6])
 }
 
 // The gate worked out again.

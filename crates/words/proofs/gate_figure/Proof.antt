@@ -1,4 +1,4 @@
--- `words::gate_figure` meets its contract. Assumes nothing.
+-- `words::gate_figure` meets its contract: the pins that are kept make the gate's word. Assumes nothing.
 use Prim.Native.Nat.{ℕ, _+_, _*_}
 use mathlib.Core.Path.{_≡_, ap, _∙_}
 use mathlib.Core.List.{List, map}
@@ -8,7 +8,7 @@ use Rattle.rounding.specs.Rounding.{unitsInOne}
 use Rattle.figure.specs.Figure.{gateWord}
 use Rattle.words.specs.Words.{table, flip, sourceWord}
 use Rattle.words.specs.Work.{gateFigure}
-use Rattle.words.proofs.Loops.{pin-source, pin-failure, used-at}
+use Rattle.words.proofs.Loops.{pin-source, used-at}
 use borrow.Author.Needs.{needs}
 use Rattle.words.proofs.gate_figure.Statement.{statement}
 use Rattle.words.proofs.gate_figure.Tie as tie
@@ -28,8 +28,8 @@ shared-slice-read-index c = search needs
 index-requires : tie.Need-index-requires
 index-requires c κs = search needs
 
-pin-words-requires : tie.Need-pin-words-requires
-pin-words-requires c κs =
+split-pins-requires : tie.Need-split-pins-requires
+split-pins-requires c κs =
     let s = c .before .before .before in
     let ws = s .args .area .now in
     let g = s .pre .0 .gate (s .args .gate) (s .pre .1) in (
@@ -40,43 +40,40 @@ pin-words-requires c κs =
       ),
     )
 
-add-gate-word : tie.Need-add-gate-word
-add-gate-word c = search needs
+add-pins-word : tie.Need-add-pins-word
+add-pins-word c = search needs
 
-mul-gate-word : tie.Need-mul-gate-word
-mul-gate-word c = search needs
+mul-pins-word : tie.Need-mul-pins-word
+mul-pins-word c = search needs
 
-shared-slice-read-gate-word : tie.Need-shared-slice-read-gate-word
-shared-slice-read-gate-word c = search needs
+shared-slice-read-pins-word : tie.Need-shared-slice-read-pins-word
+shared-slice-read-pins-word c = search needs
 
-add-gate-word-2 : tie.Need-add-gate-word-2
-add-gate-word-2 c = search needs
+add-pins-word-2 : tie.Need-add-pins-word-2
+add-pins-word-2 c = search needs
 
-mul-gate-word-2 : tie.Need-mul-gate-word-2
-mul-gate-word-2 c = search needs
+mul-pins-word-2 : tie.Need-mul-pins-word-2
+mul-pins-word-2 c = search needs
 
-shared-slice-read-gate-word-2 : tie.Need-shared-slice-read-gate-word-2
-shared-slice-read-gate-word-2 c = search needs
+shared-slice-read-pins-word-2 : tie.Need-shared-slice-read-pins-word-2
+shared-slice-read-pins-word-2 c = search needs
 
-gate-word-requires : tie.Need-gate-word-requires
-gate-word-requires c κs =
-    let s = c .before .before .before .before .before .before in
-    let ws = s .args .area .now in
-    let g = s .pre .0 .gate (s .args .gate) (s .pre .1) in
-    let e = c .before .before .before .index .ensures in (
-      (rw e (g .pin-count), g .flip-fits),
-      λ i h. pin-failure ws (s .pre .0) (s .args .gate) (s .pre .1) (c .before .before .pin-words .result) (rw e at (c .before .before .pin-words .ensures)) i (rw (← e) h),
-    )
+pins-word-requires : tie.Need-pins-word-requires
+pins-word-requires c κs =
+    let s = c .before .before .before .before .before .before .before .before in
+    let e = c .before .before .before .before .split-pins .ensures in
+    ((e .0 .0, s .pre .0 .gate (s .args .gate) (s .pre .1) .flip-fits), (e .1 .fits, e .0 .1))
 
 returns : tie.Need-returns
 unfolding gateFigure
 returns c =
-    let s = c .before .before .before .before .before .before .before in
+    let s = c .before .before .before .before .before .before .before .before .before in
     let ws = s .args .area .now in
-    let e = c .before .before .before .before .index .ensures in
-    c .gate-word .ensures
-    ∙ ap (λ (words : List ℕ). gateWord unitsInOne (table ws (s .args .gate)) words (flip ws (s .args .gate)))
-    (c .before .before .before .pin-words .ensures ∙ ap (λ (a : ℕ). map (sourceWord ws) (take a (drop (8 + 8 * s .args .gate + 2) ws))) e ∙ ap (map (sourceWord ws)) (used-at ws (s .pre .0) (s .args .gate) (s .pre .1)))
+    let j = s .args .gate in
+    c .pins-word .ensures
+    ∙ c .before .before .before .before .before .split-pins .ensures .1 .word (table ws j) (flip ws j)
+    ∙ ap (λ (sources : List ℕ). gateWord unitsInOne (table ws j) (map (sourceWord ws) sources) (flip ws j))
+    (ap (λ (a : ℕ). take a (drop (8 + 8 * j + 2) ws)) (c .before .before .before .before .before .before .index .ensures) ∙ used-at ws (s .pre .0) j (s .pre .1))
 
 pub gate-figure-spec : {M : Type 1} → statement M
 gate-figure-spec =
@@ -87,12 +84,12 @@ gate-figure-spec =
     mul-index
     shared-slice-read-index
     index-requires
-    pin-words-requires
-    add-gate-word
-    mul-gate-word
-    shared-slice-read-gate-word
-    add-gate-word-2
-    mul-gate-word-2
-    shared-slice-read-gate-word-2
-    gate-word-requires
+    split-pins-requires
+    add-pins-word
+    mul-pins-word
+    shared-slice-read-pins-word
+    add-pins-word-2
+    mul-pins-word-2
+    shared-slice-read-pins-word-2
+    pins-word-requires
     returns)
