@@ -101,7 +101,8 @@ room-append : (ps qs : List Pin) → room (ps ++ qs) ≡ room ps + room qs
 room-append [] qs = omega arith
 room-append (p ∷ ps) qs = omega (arith, room-append ps qs)
 
-numbered-room : (words : List ℕ) → length words ≤ 4 → room (numbered 1 words) ≤ 15
+-- all pins of a gate leave the index below 16
+pub numbered-room : (words : List ℕ) → length words ≤ 4 → room (numbered 1 words) ≤ 15
 numbered-room [] l = omega arith
 numbered-room (a ∷ []) l = omega arith
 numbered-room (a ∷ b ∷ []) l = omega arith

@@ -6,7 +6,7 @@ use mathlib.Core.List.{List, [], _∷_, map}
 use native.Mathlib.Nat.{mul-le-mul-right, one-mul}
 use native.Mathlib.Omega.{arith}
 use lib.ListN.{getD, take}
-use lib.Seq.{getD-take, take-nil}
+use lib.Seq.{getD-take}
 use Rattle.rounding.specs.Rounding.{blend}
 use Rattle.rounding.proofs.Laws.{blend-at-most}
 use Rattle.figure.specs.Figure.{foldStep}
@@ -65,10 +65,3 @@ pub under-pins : (b r start : ℕ) (ps : List Pin) → start + room ps + r ≤ b
 under-pins b r start [] h = under-one b r start (omega arith)
 under-pins b r start (p ∷ ps) h =
     under-pin b r (p .word) (p .weight) (spreadPins ps (start ∷ [])) (under-pins b (p .weight + r) start ps (omega arith))
-
--- what holds of 0 and of the first n elements holds of every element of the part
-pub all-take : (P : ℕ → Type 0) → P 0 → (xs : List ℕ) (n : ℕ) → ((i : ℕ) → i < n → P (getD xs i 0)) → (i : ℕ) → P (getD (take n xs) i 0)
-all-take P z [] n h i = rw (take-nil n) z
-all-take P z (x ∷ xs) zero h i = z
-all-take P z (x ∷ xs) (suc n) h zero = h 0 (omega arith)
-all-take P z (x ∷ xs) (suc n) h (suc i) = all-take P z xs n (λ j l. h (suc j) (omega arith)) i

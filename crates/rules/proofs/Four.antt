@@ -5,7 +5,7 @@ use mathlib.Core.Path.{_≡_, sym, ap, _∙_}
 use native.Mathlib.Omega.{arith}
 use lib.ListN.{length, getD, take, drop, length-take, length-drop}
 use lib.Seq.{getD-take, getD-drop}
-use Rattle.figure.proofs.Index.{four-of}
+use Rattle.figure.proofs.Four.{four-of}
 
 pub four-from : (ws : List ℕ) (b : ℕ) → b + 6 ≤ length ws
     → getD ws (b + 2) 0 ∷ getD ws (b + 3) 0 ∷ getD ws (b + 4) 0 ∷ getD ws (b + 5) 0 ∷ [] ≡ take 4 (drop (b + 2) ws)

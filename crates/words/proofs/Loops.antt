@@ -1,8 +1,8 @@
 -- What the loops over pins, outputs and gates use of a sound area. Assumes nothing.
-use Prim.Native.Nat.{ℕ, zero, suc, _+_, _-_, _*_, _/_, _≤_, _<_}
+use Prim.Native.Nat.{ℕ, zero, suc, _+_, _-_, _*_, _<_}
 use mathlib.Core.Path.{_≡_, refl, sym, ap, ap₂, _∙_}
 use mathlib.Core.Bool.{Bool, true, false, _||_}
-use mathlib.Core.List.{List, [], _∷_, map}
+use mathlib.Core.List.{List, [], _∷_}
 use native.Mathlib.Numerals.{add-one}
 use native.Mathlib.Omega.{arith}
 use borrow.Author.Tests.{eq-eqb, ne-eqb}
@@ -15,12 +15,7 @@ use Rattle.words.specs.Words.{inputs, gates, outputs, pattern, pinCount,
 use Rattle.words.specs.Rules.{Sound}
 use Rattle.words.specs.Work.{workGate, workGates, productFrom, workReliability, readsMarked, workIf, markIf, workMarked, markOf, invertBit, toggleWords, setWords}
 use Rattle.words.proofs.Frame.{same-gates, same-work-gate, same-store-pattern, same-store-flip}
-use Rattle.words.proofs.Sound.{used-pin-below, source-word-fits}
-
-map-at : (f : ℕ → ℕ) (xs : List ℕ) (i : ℕ) → i < length xs → getD (map f xs) i 0 ≡ f (getD xs i 0)
-map-at f [] i h = absurd (omega arith)
-map-at f (x ∷ xs) zero h = refl
-map-at f (x ∷ xs) (suc i) h = map-at f xs i (omega arith)
+use Rattle.words.proofs.Sound.{used-pin-below}
 
 module _ (ws : List ℕ) (s : Sound ws) (j : ℕ) (below : j < gates ws) where
   -- a pin's word in its place
@@ -36,20 +31,6 @@ module _ (ws : List ℕ) (s : Sound ws) (j : ℕ) (below : j < gates ws) where
   -- the used pins as they stand in the area
   pub used-at : take (pinCount ws j) (drop (8 + 8 * j + 2) ws) ≡ usedPins ws j
   used-at = sym (take-take (pinCount ws j) 4 (drop (8 + 8 * j + 2) ws) (s .gate j below .pin-count))
-
-  -- no pin's failure passes U
-  pub pin-failure : (words : List ℕ) → take (pinCount ws j) words ≡ map (sourceWord ws) (take (pinCount ws j) (drop (8 + 8 * j + 2) ws))
-      → (i : ℕ) → i < pinCount ws j → getD words i 0 / 2 ≤ unitsInOne
-  pin-failure words e i l =
-      let a = pinCount ws j in
-      let from = drop (8 + 8 * j + 2) ws in
-      let many : i < length (take a from) =
-      omega (arith, length-take a from, length-drop (8 + 8 * j + 2) ws, s .long, s .gate j below .pin-count) in
-      let here : getD words i 0 ≡ sourceWord ws (getD (take a from) i 0) =
-      sym (getD-take a words i 0 l) ∙ ap (λ (xs : List ℕ). getD xs i 0) e ∙ map-at (sourceWord ws) (take a from) i many in
-      let read : getD (take a from) i 0 < inputs ws + gates ws =
-      omega (arith, getD-take a from i 0 l, getD-drop (8 + 8 * j + 2) ws i 0, pin-source i l) in
-      omega (arith, here, source-word-fits ws s (getD (take a from) i 0) read)
 
 -- an output's word in its place
 pub output-at : (ws : List ℕ) (k : ℕ) → k < outputs ws → getD ws (8 + 8 * gates ws + k) 0 ≡ getD (outputWords ws) k 0

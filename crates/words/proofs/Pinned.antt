@@ -68,11 +68,10 @@ module _ (ws : List ℕ) (base count : ℕ) (few-pins : count ≤ 4) (long : bas
 
     -- the index and the weight are small
     pub pinned-small : (weight ≤ 15) × (start ≤ 15)
-    pinned-small =
-        (
-          split-room (map (sourceWord ws) sources) (sourceWord ws) sources i weight start (firstPins kept words weights) (omega (arith, many)) (p .split),
-          omega (arith, p .split .fits),
-        )
+    pinned-small = (
+      split-room (map (sourceWord ws) sources) (sourceWord ws) sources i weight start (firstPins kept words weights) (omega (arith, many)) (p .split),
+      omega (arith, p .split .fits),
+    )
 
     pub pinned-without : source < inputs ws → Pinned ws base count (start + word % 2 * weight) kept words weights (weight * 2) (i + 1)
     pinned-without input =

@@ -84,7 +84,14 @@ pub fn gate_figure(area: &[u32], gate: usize) -> u32
     let pins = split_pins(area, base, index(area[base]));
     let words = pins.words;
     let weights = pins.weights;
-    figure::pins_word(area[base + 1], pins.start, pins.kept, words, weights, area[base + 6])
+    figure::pins_word(
+        area[base + 1],
+        pins.start,
+        pins.kept,
+        words,
+        weights,
+        area[base + 6],
+    )
 }
 
 // The gate worked out again.

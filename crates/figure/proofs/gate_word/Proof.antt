@@ -3,11 +3,12 @@ use Prim.Native.Nat.{ℕ, _+_, _≤_}
 use mathlib.Core.Path.{_≡_, sym, ap, subst, _∙_}
 use mathlib.Core.List.{List, [], _∷_}
 use native.Mathlib.Omega.{arith}
-use lib.ListN.{take}
+use lib.ListN.{length, take, length-take}
 use Rattle.rounding.specs.Rounding.{unitsInOne}
 use Rattle.figure.specs.Steps.{Pin, numbered, firstPins, room, pinsWord}
-use Rattle.figure.proofs.Index.{four-pins, four-room}
+use Rattle.figure.proofs.Four.{four-pins}
 use Rattle.figure.proofs.Laws.{word-is}
+use Rattle.figure.proofs.Split.{numbered-room}
 use Rattle.figure.proofs.gate_word.Statement.{statement}
 use Rattle.figure.proofs.gate_word.Tie as tie
 
@@ -17,7 +18,8 @@ pins-are s = four-pins (s .args .words) (s .args .count) (omega arith) (s .pre .
 
 pins-word-requires : tie.Need-pins-word-requires
 pins-word-requires c κs =
-    (c .pre .0, (subst (λ (ps : List Pin). 0 + room ps ≤ 15) (sym (pins-are c)) (four-room (c .args .words) (c .args .count) (omega arith) (c .pre .0 .0)), c .pre .1))
+    let few : length (take (c .args .count) (c .args .words)) ≤ 4 = omega (arith, length-take (c .args .count) (c .args .words), c .pre .0 .0) in
+    (c .pre .0, (subst (λ (ps : List Pin). 0 + room ps ≤ 15) (sym (pins-are c)) (omega (arith, numbered-room (take (c .args .count) (c .args .words)) few)), c .pre .1))
 
 returns : tie.Need-returns
 returns c =

@@ -7,7 +7,7 @@ use borrow.Author.Needs.{needs}
 use lib.ListN.{getD}
 use Rattle.rounding.specs.Rounding.{unitsInOne}
 use Rattle.figure.specs.Steps.{Pin, firstPins, room, pinsWord}
-use Rattle.figure.proofs.Index.{four-of}
+use Rattle.figure.proofs.Four.{four-of}
 use Rattle.figure.proofs.pins_word.Statement.{statement}
 use Rattle.figure.proofs.pins_word.Tie as tie
 

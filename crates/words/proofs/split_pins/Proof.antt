@@ -118,14 +118,13 @@ loop-less : tie.Need-loop-less Inv-loop μ-loop
 loop-less c = search needs
 
 loop-again : tie.Need-loop-again Inv-loop μ-loop
-loop-again c =
-    (
-      omega arith,
-      ⊎-elim
-          (λ w. rw (w .1, w .2, w .3, w .4) (without (c .before) (omega (arith, w .0 .taken, c .before .before .before .before .before .before .index .ensures))))
-          (λ w. rw (w .1, w .2, w .3, w .4) (kept (c .before)))
-          (c .if1 .came),
-    )
+loop-again c = (
+  omega arith,
+  ⊎-elim
+      (λ w. rw (w .1, w .2, w .3, w .4) (without (c .before) (omega (arith, w .0 .taken, c .before .before .before .before .before .before .index .ensures))))
+      (λ w. rw (w .1, w .2, w .3, w .4) (kept (c .before)))
+      (c .if1 .came),
+)
 
 returns : tie.Need-returns Inv-loop μ-loop
 returns c =
