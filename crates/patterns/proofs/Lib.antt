@@ -1,3 +1,4 @@
 pub mod Weights
 pub mod Walk
 pub mod Changed
+pub mod Blocks

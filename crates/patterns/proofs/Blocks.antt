@@ -1,0 +1,72 @@
+-- The weighted sum over blocks of eight patterns: past the last weight it stays, and where eight weights are zero nothing is added. Assumes nothing.
+use Prim.Native.Nat.{ℕ, zero, suc, _+_, _-_, _*_, _≤_, _<_}
+use mathlib.Core.List.{List}
+use mathlib.Core.Logic.{by-cases}
+use mathlib.Core.Path.{_≡_, sym, ap, _∙_}
+use native.Mathlib.Nat.{zero-mul}
+use native.Mathlib.Decide.{decLe}
+use native.Mathlib.Omega.{arith}
+use lib.ListN.{length, getD, List·getD-eq-default}
+use Rattle.rounding.specs.Rounding.{unitsInOne}
+use Rattle.netlist.specs.Average.{sumBelow}
+use Rattle.words.specs.Words.{inputs}
+use Rattle.words.specs.Rules.{Sound}
+use Rattle.calls.specs.Calls.{reliabilityAt}
+use Rattle.patterns.specs.Weights.{largestWeight}
+use Rattle.patterns.specs.Walk.{Fitting, weightedTo}
+use Rattle.patterns.proofs.Walk.{weighted-fits, total-fits}
+
+-- a sum over fewer terms is not larger
+sum-below : (F : ℕ → ℕ) (j k : ℕ) → j ≤ k → sumBelow j F ≤ sumBelow k F
+sum-below F j zero l = let none : j ≡ 0 = omega arith in omega (arith, ap (λ (i : ℕ). sumBelow i F) none)
+sum-below F j (suc k) l =
+    by-cases (decLe j k) (λ less. omega (arith, sum-below F j k less))
+    (λ no. let all : j ≡ suc k = omega arith in omega (arith, ap (λ (i : ℕ). sumBelow i F) all))
+
+-- terms that are zero from j on add nothing
+sum-zeros : (F : ℕ → ℕ) (j k : ℕ) → ((q : ℕ) → j ≤ q → q < j + k → F q ≡ 0) → sumBelow (j + k) F ≡ sumBelow j F
+sum-zeros F j zero h = let none : j + 0 ≡ j = omega arith in ap (λ (i : ℕ). sumBelow i F) none
+sum-zeros F j (suc k) h =
+    let last : j + suc k ≡ suc (j + k) = omega arith in
+    omega (
+      arith,
+      ap (λ (i : ℕ). sumBelow i F) last,
+      sum-zeros F j k (λ q from to. h q from (omega arith)),
+      h (j + k) (omega arith) (omega arith),
+    )
+
+-- weights that are zero from j on add nothing to the weighted sum
+weighted-zeros : (ws weights : List ℕ) (j k : ℕ) → ((q : ℕ) → j ≤ q → q < j + k → getD weights q 0 ≡ 0)
+    → weightedTo ws weights (j + k) ≡ weightedTo ws weights j
+unfolding weightedTo
+weighted-zeros ws weights j k h =
+    sum-zeros (λ q. getD weights q 0 * reliabilityAt ws q) j k
+    (λ q from to. ap (λ (w : ℕ). w * reliabilityAt ws q) (h q from to) ∙ zero-mul (reliabilityAt ws q))
+
+-- past the last weight the sum stays
+pub weighted-past : (ws weights : List ℕ) (k : ℕ) → length weights ≤ k → weightedTo ws weights k ≡ weightedTo ws weights (length weights)
+weighted-past ws weights k l =
+    let n = length weights in
+    let all : k ≡ n + (k - n) = omega arith in
+    ap (weightedTo ws weights) all ∙ weighted-zeros ws weights n (k - n) (λ q from to. List·getD-eq-default weights 0 from)
+
+-- over fewer patterns it is not larger
+pub weighted-below : (ws weights : List ℕ) (j k : ℕ) → j ≤ k → weightedTo ws weights j ≤ weightedTo ws weights k
+unfolding weightedTo
+weighted-below ws weights j k l = sum-below (λ q. getD weights q 0 * reliabilityAt ws q) j k l
+
+-- the weighted sum fits, over any number of patterns
+pub weighted-limit : (ws weights : List ℕ) (k : ℕ) → Sound ws → Fitting (inputs ws) weights → weightedTo ws weights k ≤ unitsInOne * (4096 * largestWeight)
+weighted-limit ws weights k sound fit =
+    let inside : (j : ℕ) → j ≤ length weights → weightedTo ws weights j ≤ unitsInOne * (4096 * largestWeight)
+    = λ j l. omega (arith, weighted-fits ws weights sound fit j l, total-fits ws weights sound fit j l) in
+    by-cases (decLe k (length weights)) (inside k)
+    (λ no. rw (weighted-past ws weights k (omega arith)) (inside (length weights) (omega arith)))
+
+-- eight patterns without weight add nothing
+pub weighted-none : (ws weights : List ℕ) (first : ℕ) → ((l : ℕ) → l < 8 → getD weights (first + l) 0 ≡ 0)
+    → weightedTo ws weights first ≡ weightedTo ws weights (first + 8)
+weighted-none ws weights first h =
+    sym
+    (weighted-zeros ws weights first 8
+    (λ q from to. let at : q ≡ first + (q - first) = omega arith in ap (λ (i : ℕ). getD weights i 0) at ∙ h (q - first) (omega arith)))
