@@ -1,5 +1,5 @@
--- The weighted sum over blocks of eight patterns: past the last weight it stays, and where eight weights are zero nothing is added. Assumes nothing.
-use Prim.Native.Nat.{ℕ, zero, suc, _+_, _-_, _*_, _≤_, _<_}
+-- The weighted sum over blocks of eight patterns, what a lane adds to it, and where nothing is added. Assumes nothing.
+use Prim.Native.Nat.{ℕ, zero, suc, _+_, _-_, _*_, _/_, _^_, _≤_, _<_}
 use mathlib.Core.List.{List}
 use mathlib.Core.Logic.{by-cases}
 use mathlib.Core.Path.{_≡_, sym, ap, _∙_}
@@ -9,12 +9,15 @@ use native.Mathlib.Omega.{arith}
 use lib.ListN.{length, getD, List·getD-eq-default}
 use Rattle.rounding.specs.Rounding.{unitsInOne}
 use Rattle.netlist.specs.Average.{sumBelow}
-use Rattle.words.specs.Words.{inputs}
+use Rattle.words.specs.Words.{inputs, outputWords}
 use Rattle.words.specs.Rules.{Sound}
+use Rattle.words.proofs.Sound.{output-below}
 use Rattle.calls.specs.Calls.{reliabilityAt}
 use Rattle.patterns.specs.Weights.{largestWeight}
 use Rattle.patterns.specs.Walk.{Fitting, weightedTo}
+use Rattle.patterns.specs.Lanes.{laneWord, lanePattern, OutputLanes, laneProduct}
 use Rattle.patterns.proofs.Walk.{weighted-fits, total-fits}
+use Rattle.patterns.proofs.Lanes.{word-fits, product-at, lane-pattern-fits, lane-pattern-small}
 
 -- a sum over fewer terms is not larger
 sum-below : (F : ℕ → ℕ) (j k : ℕ) → j ≤ k → sumBelow j F ≤ sumBelow k F
@@ -70,3 +73,30 @@ weighted-none ws weights first h =
     sym
     (weighted-zeros ws weights first 8
     (λ q from to. let at : q ≡ first + (q - first) = omega arith in ap (λ (i : ℕ). getD weights i 0) at ∙ h (q - first) (omega arith)))
+
+-- one pattern more of a block
+pub block-more : (ws weights : List ℕ) (first l s x : ℕ) → weightedTo ws weights first + s ≡ weightedTo ws weights (first + l)
+    → x ≡ getD weights (first + l) 0 * reliabilityAt ws (first + l) → weightedTo ws weights first + (s + x) ≡ weightedTo ws weights (first + (l + 1))
+unfolding weightedTo
+block-more ws weights first l s x e f =
+    let next : first + (l + 1) ≡ suc (first + l) = omega arith in
+    omega (arith, ap (λ (i : ℕ). sumBelow i (λ q. getD weights q 0 * reliabilityAt ws q)) next)
+
+-- and one past the last weight
+pub block-past : (ws weights : List ℕ) (first l : ℕ) → length weights ≤ first + l → weightedTo ws weights (first + l) ≡ weightedTo ws weights (first + (l + 1))
+block-past ws weights first l past = weighted-past ws weights (first + l) past ∙ sym (weighted-past ws weights (first + (l + 1)) (omega arith))
+
+-- ---- a lane of a block
+
+module _ (ws lanes : List ℕ) (first l : ℕ) (sound : Sound ws) (few : l < 8) (there : OutputLanes ws lanes first) where
+  -- no output's failure passes U
+  pub lane-fits : (k : ℕ) → k < length (outputWords ws) → laneWord lanes l (getD (outputWords ws) k 0) / 2 ≤ unitsInOne
+  lane-fits k inside =
+      rw (there k l inside few)
+      (word-fits ws (lanePattern ws first l) (getD (outputWords ws) k 0) sound (lane-pattern-fits ws first l) (output-below ws sound k inside))
+
+  -- the outputs' product is the reliability under the lane's pattern
+  pub lane-reliability-at : first + l < 2 ^ inputs ws → laneProduct lanes l unitsInOne (outputWords ws) ≡ reliabilityAt ws (first + l)
+  lane-reliability-at small =
+      product-at ws lanes (lanePattern ws first l) l sound (lane-pattern-fits ws first l) (λ k inside. there k l inside few)
+      ∙ ap (reliabilityAt ws) (lane-pattern-small ws first l small)

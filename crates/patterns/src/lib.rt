@@ -13,7 +13,7 @@ ghost use Rattle.calls.specs.Judged.{weightsJudgement};
 ghost use Rattle.calls.specs.Calls.{reliabilityAt, averageOf};
 ghost use Rattle.patterns.specs.Weights.{weightsAnswer, FirstHeavy};
 ghost use Rattle.patterns.specs.Walk.{Fitting, weightedTo, workedAt, Current, SameWork, Lowest};
-ghost use Rattle.patterns.specs.Lanes.{laneWord, InputLanes, RowStored, laneProduct};
+ghost use Rattle.patterns.specs.Lanes.{laneWord, InputLanes, RowStored, OutputLanes, laneProduct};
 
 const LARGEST_WEIGHT: u32 = 1_048_575;
 
@@ -142,6 +142,25 @@ fn no_weight(weights: &[u32], first: usize) -> bool
         l += 1;
     }
     true
+}
+
+// What the eight patterns from `first` on add to the weighted sum.
+fn block_sum(lanes: &[u32; 8288], area: &[u32], first: usize, weights: &[u32]) -> u64
+    requires { ⌜ Sound (now area) ⌝ }
+    requires { ⌜ Fitting (inputs (now area)) (now weights) ⌝ }
+    requires { ⌜ (first < length (now weights)) ⌝ }
+    requires { ⌜ OutputLanes (now area) (now lanes) first ⌝ }
+    ensures { λ r. ⌜ weightedTo (now (area .entry)) (now (weights .entry)) first + r ≡ weightedTo (now (area .entry)) (now (weights .entry)) (first + 8) ⌝ }
+{
+    let mut sum = 0;
+    let mut l = 0;
+    while l < 8 {
+        if first + l < weights.len() {
+            sum += weights[first + l] as u64 * lane_reliability(lanes, area, l);
+        }
+        l += 1;
+    }
+    sum
 }
 
 fn lower(a: u32, b: u32) -> u32
