@@ -1,9 +1,11 @@
 // The walk over all patterns of the call "average", on an area that keeps rule 14, and the test of the weights, refusal 12.
 ghost use mathlib.Core.Path.{_≡_};
 ghost use Prim.Native.Nat.{ℕ, _+_, _*_, _/_, _^_, _<_, _≤_};
+ghost use mathlib.Core.Bool.{true};
 ghost use lib.ListN.{length, getD};
 ghost use Rattle.netlist.specs.Average.{sumBelow};
-ghost use Rattle.words.specs.Words.{inputs, gates};
+ghost use Rattle.rounding.specs.Rounding.{unitsInOne};
+ghost use Rattle.words.specs.Words.{inputs, gates, outputWords};
 ghost use Rattle.words.specs.Rules.{allZero, Sound};
 ghost use Rattle.words.specs.Work.{workGate, workAll};
 ghost use Rattle.image.specs.Judgement.{fine};
@@ -11,6 +13,7 @@ ghost use Rattle.calls.specs.Judged.{weightsJudgement};
 ghost use Rattle.calls.specs.Calls.{reliabilityAt, averageOf};
 ghost use Rattle.patterns.specs.Weights.{weightsAnswer, FirstHeavy};
 ghost use Rattle.patterns.specs.Walk.{Fitting, weightedTo, workedAt, Current, SameWork, Lowest};
+ghost use Rattle.patterns.specs.Lanes.{laneWord, InputLanes, RowStored, OutputLanes, laneProduct};
 
 const LARGEST_WEIGHT: u32 = 1_048_575;
 
@@ -76,6 +79,88 @@ fn total_weight(weights: &[u32]) -> u64
         q += 1;
     }
     total
+}
+
+// The inputs' words in each lane, for the eight patterns from `first` on.
+fn input_lanes(lanes: &mut [u32; 8288], inputs: usize, first: usize)
+    requires { ⌜ (inputs ≤ 12) × (first ≤ 4096) ⌝ }
+    requires { ⌜ length (now lanes) ≡ 8288 ⌝ }
+    ensures { λ _. ⌜ InputLanes inputs first (now (lanes .exit)) ⌝ }
+    ensures { λ _. ⌜ length (now (lanes .exit)) ≡ 8288 ⌝ }
+{
+    let mut at = 0;
+    while at < 8 * inputs {
+        lanes[at] = ((first + at % 8) >> (at / 8)) as u32 % 2;
+        at += 1;
+    }
+}
+
+// Eight words stored as the row of a source.
+fn store_row(lanes: &mut [u32; 8288], source: usize, words: [u32; 8])
+    requires { ⌜ source < 1036 ⌝ }
+    requires { ⌜ length (now lanes) ≡ 8288 ⌝ }
+    ensures { λ _. ⌜ RowStored (now (lanes .entry)) (now (lanes .exit)) source (λ l. getD words l 0) ⌝ }
+    ensures { λ _. ⌜ length (now (lanes .exit)) ≡ 8288 ⌝ }
+{
+    let mut l = 0;
+    while l < 8 {
+        lanes[8 * source + l] = words[l];
+        l += 1;
+    }
+}
+
+// The reliability in one lane: the product over the outputs in order.
+fn lane_reliability(lanes: &[u32; 8288], area: &[u32], l: usize) -> u64
+    requires { ⌜ Sound (now area) ⌝ }
+    requires { ⌜ l < 8 ⌝ }
+    requires { ⌜ ((k : ℕ) → k < length (outputWords (now area)) → laneWord (now lanes) l (getD (outputWords (now area)) k 0) / 2 ≤ unitsInOne) ⌝ }
+    ensures { λ r. ⌜ r ≡ laneProduct (now (lanes .entry)) l unitsInOne (outputWords (now (area .entry))) ⌝ }
+    ensures { λ r. ⌜ r ≤ unitsInOne ⌝ }
+{
+    let start = 8 + 8 * area[1] as usize;
+    let count = area[2] as usize;
+    let mut reliability = rounding::UNITS_IN_ONE;
+    let mut k = 0;
+    while k < count {
+        let word = lanes[8 * area[start + k] as usize + l];
+        reliability = figure::output_step(reliability, (word / 2) as u64);
+        k += 1;
+    }
+    reliability
+}
+
+// Whether none of the eight patterns from `first` on has a weight: then nothing need be worked out for them.
+fn no_weight(weights: &[u32], first: usize) -> bool
+    requires { ⌜ first ≤ 4096 ⌝ }
+    ensures { λ r. ⌜ (r ≡ true → (l : ℕ) → l < 8 → getD (now (weights .entry)) (first + l) 0 ≡ 0) ⌝ }
+{
+    let mut l = 0;
+    while l < 8 {
+        if first + l < weights.len() && weights[first + l] != 0 {
+            return false;
+        }
+        l += 1;
+    }
+    true
+}
+
+// What the eight patterns from `first` on add to the weighted sum.
+fn block_sum(lanes: &[u32; 8288], area: &[u32], first: usize, weights: &[u32]) -> u64
+    requires { ⌜ Sound (now area) ⌝ }
+    requires { ⌜ Fitting (inputs (now area)) (now weights) ⌝ }
+    requires { ⌜ (first < length (now weights)) ⌝ }
+    requires { ⌜ OutputLanes (now area) (now lanes) first ⌝ }
+    ensures { λ r. ⌜ weightedTo (now (area .entry)) (now (weights .entry)) first + r ≡ weightedTo (now (area .entry)) (now (weights .entry)) (first + 8) ⌝ }
+{
+    let mut sum = 0;
+    let mut l = 0;
+    while l < 8 {
+        if first + l < weights.len() {
+            sum += weights[first + l] as u64 * lane_reliability(lanes, area, l);
+        }
+        l += 1;
+    }
+    sum
 }
 
 fn lower(a: u32, b: u32) -> u32

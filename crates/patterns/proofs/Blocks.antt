@@ -1,0 +1,102 @@
+-- The weighted sum over blocks of eight patterns, what a lane adds to it, and where nothing is added. Assumes nothing.
+use Prim.Native.Nat.{ℕ, zero, suc, _+_, _-_, _*_, _/_, _^_, _≤_, _<_}
+use mathlib.Core.List.{List}
+use mathlib.Core.Logic.{by-cases}
+use mathlib.Core.Path.{_≡_, sym, ap, _∙_}
+use native.Mathlib.Nat.{zero-mul}
+use native.Mathlib.Decide.{decLe}
+use native.Mathlib.Omega.{arith}
+use lib.ListN.{length, getD, List·getD-eq-default}
+use Rattle.rounding.specs.Rounding.{unitsInOne}
+use Rattle.netlist.specs.Average.{sumBelow}
+use Rattle.words.specs.Words.{inputs, outputWords}
+use Rattle.words.specs.Rules.{Sound}
+use Rattle.words.proofs.Sound.{output-below}
+use Rattle.calls.specs.Calls.{reliabilityAt}
+use Rattle.patterns.specs.Weights.{largestWeight}
+use Rattle.patterns.specs.Walk.{Fitting, weightedTo}
+use Rattle.patterns.specs.Lanes.{laneWord, lanePattern, OutputLanes, laneProduct}
+use Rattle.patterns.proofs.Walk.{weighted-fits, total-fits}
+use Rattle.patterns.proofs.Lanes.{word-fits, product-at, lane-pattern-fits, lane-pattern-small}
+
+-- a sum over fewer terms is not larger
+sum-below : (F : ℕ → ℕ) (j k : ℕ) → j ≤ k → sumBelow j F ≤ sumBelow k F
+sum-below F j zero l = let none : j ≡ 0 = omega arith in omega (arith, ap (λ (i : ℕ). sumBelow i F) none)
+sum-below F j (suc k) l =
+    by-cases (decLe j k) (λ less. omega (arith, sum-below F j k less))
+    (λ no. let all : j ≡ suc k = omega arith in omega (arith, ap (λ (i : ℕ). sumBelow i F) all))
+
+-- terms that are zero from j on add nothing
+sum-zeros : (F : ℕ → ℕ) (j k : ℕ) → ((q : ℕ) → j ≤ q → q < j + k → F q ≡ 0) → sumBelow (j + k) F ≡ sumBelow j F
+sum-zeros F j zero h = let none : j + 0 ≡ j = omega arith in ap (λ (i : ℕ). sumBelow i F) none
+sum-zeros F j (suc k) h =
+    let last : j + suc k ≡ suc (j + k) = omega arith in
+    omega (
+      arith,
+      ap (λ (i : ℕ). sumBelow i F) last,
+      sum-zeros F j k (λ q from to. h q from (omega arith)),
+      h (j + k) (omega arith) (omega arith),
+    )
+
+-- weights that are zero from j on add nothing to the weighted sum
+weighted-zeros : (ws weights : List ℕ) (j k : ℕ) → ((q : ℕ) → j ≤ q → q < j + k → getD weights q 0 ≡ 0)
+    → weightedTo ws weights (j + k) ≡ weightedTo ws weights j
+unfolding weightedTo
+weighted-zeros ws weights j k h =
+    sum-zeros (λ q. getD weights q 0 * reliabilityAt ws q) j k
+    (λ q from to. ap (λ (w : ℕ). w * reliabilityAt ws q) (h q from to) ∙ zero-mul (reliabilityAt ws q))
+
+-- past the last weight the sum stays
+pub weighted-past : (ws weights : List ℕ) (k : ℕ) → length weights ≤ k → weightedTo ws weights k ≡ weightedTo ws weights (length weights)
+weighted-past ws weights k l =
+    let n = length weights in
+    let all : k ≡ n + (k - n) = omega arith in
+    ap (weightedTo ws weights) all ∙ weighted-zeros ws weights n (k - n) (λ q from to. List·getD-eq-default weights 0 from)
+
+-- over fewer patterns it is not larger
+pub weighted-below : (ws weights : List ℕ) (j k : ℕ) → j ≤ k → weightedTo ws weights j ≤ weightedTo ws weights k
+unfolding weightedTo
+weighted-below ws weights j k l = sum-below (λ q. getD weights q 0 * reliabilityAt ws q) j k l
+
+-- the weighted sum fits, over any number of patterns
+pub weighted-limit : (ws weights : List ℕ) (k : ℕ) → Sound ws → Fitting (inputs ws) weights → weightedTo ws weights k ≤ unitsInOne * (4096 * largestWeight)
+weighted-limit ws weights k sound fit =
+    let inside : (j : ℕ) → j ≤ length weights → weightedTo ws weights j ≤ unitsInOne * (4096 * largestWeight)
+    = λ j l. omega (arith, weighted-fits ws weights sound fit j l, total-fits ws weights sound fit j l) in
+    by-cases (decLe k (length weights)) (inside k)
+    (λ no. rw (weighted-past ws weights k (omega arith)) (inside (length weights) (omega arith)))
+
+-- eight patterns without weight add nothing
+pub weighted-none : (ws weights : List ℕ) (first : ℕ) → ((l : ℕ) → l < 8 → getD weights (first + l) 0 ≡ 0)
+    → weightedTo ws weights first ≡ weightedTo ws weights (first + 8)
+weighted-none ws weights first h =
+    sym
+    (weighted-zeros ws weights first 8
+    (λ q from to. let at : q ≡ first + (q - first) = omega arith in ap (λ (i : ℕ). getD weights i 0) at ∙ h (q - first) (omega arith)))
+
+-- one pattern more of a block
+pub block-more : (ws weights : List ℕ) (first l s x : ℕ) → weightedTo ws weights first + s ≡ weightedTo ws weights (first + l)
+    → x ≡ getD weights (first + l) 0 * reliabilityAt ws (first + l) → weightedTo ws weights first + (s + x) ≡ weightedTo ws weights (first + (l + 1))
+unfolding weightedTo
+block-more ws weights first l s x e f =
+    let next : first + (l + 1) ≡ suc (first + l) = omega arith in
+    omega (arith, ap (λ (i : ℕ). sumBelow i (λ q. getD weights q 0 * reliabilityAt ws q)) next)
+
+-- and one past the last weight
+pub block-past : (ws weights : List ℕ) (first l : ℕ) → length weights ≤ first + l → weightedTo ws weights (first + l) ≡ weightedTo ws weights (first + (l + 1))
+block-past ws weights first l past = weighted-past ws weights (first + l) past ∙ sym (weighted-past ws weights (first + (l + 1)) (omega arith))
+
+-- ---- a lane of a block
+
+module _ (ws lanes : List ℕ) (first l : ℕ) (sound : Sound ws) (few : l < 8) (there : OutputLanes ws lanes first) where
+  -- no output's failure passes U
+  pub lane-fits : (k : ℕ) → k < length (outputWords ws) → laneWord lanes l (getD (outputWords ws) k 0) / 2 ≤ unitsInOne
+  lane-fits k inside =
+      rw (there k l inside few)
+      (word-fits ws (lanePattern ws first l) (getD (outputWords ws) k 0) sound (lane-pattern-fits ws first l) (output-below ws sound k inside))
+
+  -- the outputs' product is the reliability under the lane's pattern
+  pub lane-reliability-at : first + l < 2 ^ inputs ws → laneProduct lanes l unitsInOne (outputWords ws) ≡ reliabilityAt ws (first + l)
+  lane-reliability-at small =
+      product-at ws lanes (lanePattern ws first l) l sound (lane-pattern-fits ws first l) (λ k inside. there k l inside few)
+      ∙ ap (reliabilityAt ws) (lane-pattern-small ws first l small)
