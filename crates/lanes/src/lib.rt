@@ -7,7 +7,21 @@ ghost use lib.ListN.{length, getD, take, drop};
 ghost use Rattle.rounding.specs.Rounding.{unitsInOne};
 ghost use Rattle.figure.specs.Figure.{failureOf};
 ghost use Rattle.figure.specs.Steps.{room, pinsWord, Split};
-ghost use Rattle.lanes.specs.Lanes.{laneWord, RowStored, Readable, lanePins, laneGate};
+ghost use Rattle.lanes.specs.Lanes.{laneWord, InputLanes, RowStored, Readable, lanePins, laneGate};
+
+// The inputs' words in each lane, for the eight patterns from `first` on.
+pub fn input_lanes(lanes: &mut [u32; 8288], inputs: usize, first: usize)
+    requires { ⌜ (inputs ≤ 12) × (first ≤ 4096) ⌝ }
+    requires { ⌜ length (now lanes) ≡ 8288 ⌝ }
+    ensures { λ _. ⌜ InputLanes inputs first (now (lanes .exit)) ⌝ }
+    ensures { λ _. ⌜ length (now (lanes .exit)) ≡ 8288 ⌝ }
+{
+    let mut at = 0;
+    while at < 8 * inputs {
+        lanes[at] = ((first + at % 8) >> (at / 8)) as u32 % 2;
+        at += 1;
+    }
+}
 
 // A gate's pins in all lanes. An input never fails, so a pin that reads one only moves the index a lane starts from; the others are kept.
 pub struct LanePins {

@@ -15,7 +15,8 @@ use Rattle.words.proofs.Sound.{output-below}
 use Rattle.calls.specs.Calls.{reliabilityAt}
 use Rattle.patterns.specs.Weights.{largestWeight}
 use Rattle.patterns.specs.Walk.{Fitting, weightedTo}
-use Rattle.patterns.specs.Lanes.{laneWord, lanePattern, OutputLanes, laneProduct}
+use Rattle.lanes.specs.Lanes.{laneWord}
+use Rattle.patterns.specs.Blocks.{lanePattern, OutputLanes, laneProduct}
 use Rattle.patterns.proofs.Walk.{weighted-fits, total-fits}
 use Rattle.patterns.proofs.Lanes.{word-fits, product-at, lane-pattern-fits, lane-pattern-small}
 

@@ -24,7 +24,8 @@ use Rattle.live.proofs.Net.{gate-at, gate-count, sound-pins}
 use Rattle.fresh.proofs.Sources.{map-same, source-input, source-gate, source-cases}
 use Rattle.fresh.proofs.WorkAll.{work-all-fresh}
 use Rattle.calls.specs.Calls.{reliabilityAt}
-use Rattle.patterns.specs.Lanes.{laneWord, wordAt, lanePattern, ReadersOf, InputLanes, RowStored, Block, OutputLanes, laneProduct}
+use Rattle.lanes.specs.Lanes.{laneWord, InputLanes, RowStored}
+use Rattle.patterns.specs.Blocks.{wordAt, lanePattern, ReadersOf, Block, OutputLanes, laneProduct}
 
 -- ---- the words afresh for a pattern
 

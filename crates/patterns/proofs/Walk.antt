@@ -69,113 +69,16 @@ some-weight weights e =
     (λ q l. eq-eqb (getD weights (0 + q) 0) 0 (omega (arith, term-below W (length weights) (0 + q) (omega arith)))))
     ∙ e)))
 
--- ---- areas
-
--- a current area with the netlist and the flips of another works out to the same under each pattern
-pub same-work : (ws vs : List ℕ) → Sound ws → Sound vs → Current vs → SameFrame ws vs → ((j : ℕ) → j < gates ws → flip vs j ≡ flip ws j) → SameWork ws vs
-same-work ws vs sound-ws sound-vs current same flips =
-    let n = same-inputs ws vs same in
-    let kept : (us : List ℕ) (q j : ℕ) → flip (set us 3 q) j ≡ flip us j = λ us q j. getD-set-other us 3 (8 + 8 * j + 6) q 0 (λ e. omega arith) in
-    record {
-      sound = sound-vs;
-      current = current;
-      size = same .size;
-      input-count = n;
-      gate-count = same-gates ws vs same;
-      work =
-          λ q l.
-          work-all-same (set ws 3 q) (set vs 3 q) (sound-store-pattern ws q sound-ws l) (sound-store-pattern vs q sound-vs (rw n l))
-          (same-trans (set ws 3 q) ws (set vs 3 q) (same-sym ws (set ws 3 q) (same-store-pattern ws q))
-          (same-trans ws vs (set vs 3 q) same (same-store-pattern vs q)))
-          (getD-set-same vs 3 q 0 (omega (arith, sound-vs .long)) ∙ sym (getD-set-same ws 3 q 0 (omega (arith, sound-ws .long))))
-          (λ j inside. kept vs q j ∙ flips j (omega (arith, same-gates ws (set ws 3 q) (same-store-pattern ws q))) ∙ sym (kept ws q j));
-    }
-
-pub same-work-refl : (ws : List ℕ) → Sound ws → Current ws → SameWork ws ws
-same-work-refl ws sound current =
-    record { sound = sound; current = current; size = refl; input-count = refl; gate-count = refl; work = λ q l. refl }
-
-pub same-work-trans : (ws vs us : List ℕ) → SameWork ws vs → SameWork vs us → SameWork ws us
-same-work-trans ws vs us a b =
-    record {
-      sound = b .sound;
-      current = b .current;
-      size = b .size ∙ a .size;
-      input-count = b .input-count ∙ a .input-count;
-      gate-count = b .gate-count ∙ a .gate-count;
-      work = λ q l. b .work q (rw (a .input-count) l) ∙ a .work q l;
-    }
-
--- so has it the same reliabilities
-pub same-reliability : (ws vs : List ℕ) (q : ℕ) → SameWork ws vs → q < 2 ^ inputs ws → reliabilityAt vs q ≡ reliabilityAt ws q
-unfolding reliabilityAt
-same-reliability ws vs q same l = ap reliabilityWord (same .work q l)
-
+-- no reliability passes U
 pub reliability-at-fits : (ws : List ℕ) (q : ℕ) → Sound ws → q < 2 ^ inputs ws → reliabilityAt ws q ≤ unitsInOne
 unfolding reliabilityAt
 reliability-at-fits ws q sound l = sound-work-all (set ws 3 q) (sound-store-pattern ws q sound l) .reliability-fits
-
--- the area's own pattern put back
-pub put-back : (ws vs : List ℕ) (q : ℕ) → Sound ws → SameWork ws vs → q ≡ pattern ws → workAll (set vs 3 q) ≡ workAll ws
-put-back ws vs q sound same e =
-    ap (λ (p : ℕ). workAll (set vs 3 p)) e ∙ same .work (pattern ws) (sound .pattern-fits) ∙ ap workAll (set-getD ws 3 0)
-
-module _ (ws : List ℕ) (q : ℕ) (sound : Sound ws) (l : q < 2 ^ inputs ws) where
-  sound-stored : Sound (set ws 3 q)
-  sound-stored = sound-store-pattern ws q sound l
-
-  pub sound-at : Sound (workedAt ws q)
-  sound-at = sound-work-gates (set ws 3 q) 0 (gates (set ws 3 q)) sound-stored (omega arith)
-
-  same-frame-at : SameFrame (set ws 3 q) (workedAt ws q)
-  same-frame-at = same-work-gates (set ws 3 q) 0 (gates (set ws 3 q)) (omega arith)
-
-  current-at : Current (workedAt ws q)
-  current-at =
-      record {
-        figures =
-            λ j inside.
-            fresh-gates (set ws 3 q) 0 (gates (set ws 3 q)) sound-stored (omega arith) (λ i none. absurd (omega arith)) j
-            (omega (arith, same-gates (set ws 3 q) (workedAt ws q) same-frame-at));
-      }
-
-  pub same-at : SameWork ws (workedAt ws q)
-  same-at =
-      same-work ws (workedAt ws q) sound sound-at current-at
-      (same-trans ws (set ws 3 q) (workedAt ws q) (same-store-pattern ws q) same-frame-at)
-      (λ j inside.
-      work-gates-other (set ws 3 q) 0 (gates (set ws 3 q)) (8 + 8 * j + 6) (λ k from to e. omega arith)
-      ∙ getD-set-other ws 3 (8 + 8 * j + 6) q 0 (λ e. omega arith))
-
-  pub reliability-is : reliabilityNow (workedAt ws q) ≡ reliabilityAt ws q
-  unfolding reliabilityAt workAll
-  reliability-is = sym (work-reliability-same (workedAt ws q) (omega (arith, sound-at .long)))
-
--- every gate worked out for the area's own pattern
-pub same-own : (ws : List ℕ) → Sound ws → SameWork ws (workGates ws 0 (gates ws))
-same-own ws sound =
-    subst (λ (us : List ℕ). SameWork ws (workGates us 0 (gates us))) (set-getD ws 3 0) (same-at ws (pattern ws) sound (sound .pattern-fits))
 
 -- ---- the weighted sum
 
 module _ (ws weights : List ℕ) (sound : Sound ws) (fit : Fitting (inputs ws) weights) where
   pub length-small : length weights ≤ 4096
   length-small = omega (arith, fit .one-each, pow-mono {i = inputs ws} {j = 12} (sound .inputs-fit))
-
-  -- one turn
-  pub weighted-more : (vs : List ℕ) (k s x : ℕ) → k < length weights → SameWork ws vs → s ≡ weightedTo ws weights k
-      → x ≡ getD weights k 0 * reliabilityAt vs k → s + x ≡ weightedTo ws weights (k + 1)
-  unfolding weightedTo
-  weighted-more vs k s x l same e f =
-      sum-more (λ q. getD weights q 0 * reliabilityAt ws q) k s x e
-      (f ∙ ap (λ (r : ℕ). getD weights k 0 * r) (same-reliability ws vs k same (omega (arith, fit .one-each))))
-
-  -- an area that works out to the same has the same sum
-  pub weighted-same : (vs : List ℕ) (k : ℕ) → k ≤ length weights → SameWork ws vs → weightedTo vs weights k ≡ weightedTo ws weights k
-  unfolding weightedTo
-  weighted-same vs k l same =
-      sum-same (λ q. getD weights q 0 * reliabilityAt vs q) (λ q. getD weights q 0 * reliabilityAt ws q) k
-      (λ q less. ap (λ (r : ℕ). getD weights q 0 * r) (same-reliability ws vs q same (omega (arith, fit .one-each))))
 
   -- each term is at most weight × U
   pub weighted-fits : (k : ℕ) → k ≤ length weights → weightedTo ws weights k ≤ unitsInOne * sumBelow k (λ q. getD weights q 0)

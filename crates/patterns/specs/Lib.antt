@@ -1,3 +1,3 @@
 pub mod Weights
 pub mod Walk
-pub mod Lanes
+pub mod Blocks

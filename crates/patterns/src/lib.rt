@@ -81,34 +81,6 @@ fn total_weight(weights: &[u32]) -> u64
     total
 }
 
-// The inputs' words in each lane, for the eight patterns from `first` on.
-fn input_lanes(lanes: &mut [u32; 8288], inputs: usize, first: usize)
-    requires { ⌜ (inputs ≤ 12) × (first ≤ 4096) ⌝ }
-    requires { ⌜ length (now lanes) ≡ 8288 ⌝ }
-    ensures { λ _. ⌜ InputLanes inputs first (now (lanes .exit)) ⌝ }
-    ensures { λ _. ⌜ length (now (lanes .exit)) ≡ 8288 ⌝ }
-{
-    let mut at = 0;
-    while at < 8 * inputs {
-        lanes[at] = ((first + at % 8) >> (at / 8)) as u32 % 2;
-        at += 1;
-    }
-}
-
-// Eight words stored as the row of a source.
-fn store_row(lanes: &mut [u32; 8288], source: usize, words: [u32; 8])
-    requires { ⌜ source < 1036 ⌝ }
-    requires { ⌜ length (now lanes) ≡ 8288 ⌝ }
-    ensures { λ _. ⌜ RowStored (now (lanes .entry)) (now (lanes .exit)) source (λ l. getD words l 0) ⌝ }
-    ensures { λ _. ⌜ length (now (lanes .exit)) ≡ 8288 ⌝ }
-{
-    let mut l = 0;
-    while l < 8 {
-        lanes[8 * source + l] = words[l];
-        l += 1;
-    }
-}
-
 // The reliability in one lane: the product over the outputs in order.
 fn lane_reliability(lanes: &[u32; 8288], area: &[u32], l: usize) -> u64
     requires { ⌜ Sound (now area) ⌝ }
@@ -163,145 +135,67 @@ fn block_sum(lanes: &[u32; 8288], area: &[u32], first: usize, weights: &[u32]) -
     sum
 }
 
-fn lower(a: u32, b: u32) -> u32
-    ensures { λ r. ⌜ (r ≤ a) × (r ≤ b) ⌝ }
-{
-    if a < b { a } else { b }
-}
-
-// The lowest input that the first `count` pins of the gate whose words start at `base` depend on; 12 if there is none.
-fn pins_lowest(area: &[u32], lows: &[u32; 1036], base: usize, count: usize) -> u32
-    requires { ⌜ (count ≤ 4) × (base + 6 ≤ length (now area)) ⌝ }
-    requires { ⌜ ((i : ℕ) → i < count → getD (now area) (base + 2 + i) 0 < 1036) ⌝ }
-    ensures { λ r. ⌜ (r ≤ 12) × ((i : ℕ) → i < count → r ≤ getD (now (lows .entry)) (getD (now (area .entry)) (base + 2 + i) 0) 0) ⌝ }
-{
-    let mut low = 12;
-    let mut i = 0;
-    while i < count {
-        low = lower(low, lows[area[base + 2 + i] as usize]);
-        i += 1;
-    }
-    low
-}
-
-// An input depends on itself.
-fn input_lows() -> [u32; 1036]
-    ensures { λ r. ⌜ ((i : ℕ) → i < 12 → getD r i 0 ≡ i) ⌝ }
-{
-    let mut lows = [12u32; 1036];
-    let mut i = 0;
-    while i < 12 {
-        lows[i] = i as u32;
-        i += 1;
-    }
-    lows
-}
-
-// The lowest input that each source depends on: 12 inputs and 1,024 gates at the most.
-fn lowest_inputs(area: &[u32]) -> [u32; 1036]
+// The lanes' words for the eight patterns from `first` on: the inputs', then those of the live gates in order. No live gate or output reads a dead gate.
+fn work_block(lanes: &mut [u32; 8288], area: &[u32], readers: &[u32; 1036], first: usize)
     requires { ⌜ Sound (now area) ⌝ }
-    ensures { λ r. ⌜ Lowest (now (area .entry)) r (inputs (now (area .entry)) + gates (now (area .entry))) ⌝ }
+    requires { ⌜ ReadersOf (now area) (now readers) ⌝ }
+    requires { ⌜ (first ≤ 4096) × (length (now lanes) ≡ 8288) ⌝ }
+    ensures { λ _. ⌜ Block (now (area .entry)) (now (readers .entry)) (now (lanes .exit)) first (gates (now (area .entry))) ⌝ }
+    ensures { λ _. ⌜ length (now (lanes .exit)) ≡ 8288 ⌝ }
 {
     let n = area[0] as usize;
     let count = area[1] as usize;
-    let mut lows = input_lows();
+    lanes::input_lanes(lanes, n, first);
     let mut gate = 0;
     while gate < count {
-        let base = 8 + 8 * gate;
-        let low = pins_lowest(area, &lows, base, area[base] as usize);
-        lows[n + gate] = low;
-        gate += 1;
-    }
-    lows
-}
-
-// A gate worked out, unless the two patterns agree from input `low` on, the lowest that it depends on: then its figure stays.
-fn work_if_changed(area: &mut [u32], gate: usize, low: u32, old: u32, new: u32)
-    requires { ⌜ Sound (now area) ⌝ }
-    requires { ⌜ (gate < gates (now area)) × (low ≤ 12) ⌝ }
-    requires { ⌜ (old / 2 ^ low ≡ new / 2 ^ low → workGate (now area) gate ≡ now area) ⌝ }
-    ensures { λ _. ⌜ now (area .exit) ≡ workGate (now (area .entry)) gate ⌝ }
-{
-    if old >> low == new >> low {
-        return;
-    }
-    words::work_gate(area, gate);
-}
-
-// A pattern stored, and the gates worked out that it may change. In rising order most patterns change a few low inputs alone.
-fn change_pattern(area: &mut [u32], lows: &[u32; 1036], pattern: u32)
-    requires { ⌜ Sound (now area) ⌝ }
-    requires { ⌜ Current (now area) ⌝ }
-    requires { ⌜ Lowest (now area) (now lows) (inputs (now area) + gates (now area)) ⌝ }
-    requires { ⌜ pattern < 2 ^ inputs (now area) ⌝ }
-    ensures { λ _. ⌜ now (area .exit) ≡ workedAt (now (area .entry)) pattern ⌝ }
-{
-    let n = area[0] as usize;
-    let count = area[1] as usize;
-    let old = area[3];
-    area[3] = pattern;
-    let mut gate = 0;
-    while gate < count {
-        work_if_changed(area, gate, lows[n + gate], old, pattern);
+        if 0 < readers[n + gate] {
+            lanes::work_row(lanes, area, n, 8 + 8 * gate, n + gate);
+        }
         gate += 1;
     }
 }
 
-// What a pattern adds to the weighted sum. One of weight 0 adds nothing, so nothing is worked out for it.
-fn weighted(area: &mut [u32], lows: &[u32; 1036], pattern: u32, weight: u32) -> u64
+// What the eight patterns from `first` on add to the weighted sum, worked out unless none of them has a weight.
+fn weighted_block(lanes: &mut [u32; 8288], area: &[u32], readers: &[u32; 1036], first: usize, weights: &[u32]) -> u64
     requires { ⌜ Sound (now area) ⌝ }
-    requires { ⌜ Current (now area) ⌝ }
-    requires { ⌜ Lowest (now area) (now lows) (inputs (now area) + gates (now area)) ⌝ }
-    requires { ⌜ pattern < 2 ^ inputs (now area) ⌝ }
-    ensures { λ r. ⌜ r ≡ weight * reliabilityAt (now (area .entry)) pattern ⌝ }
-    ensures { λ _. ⌜ SameWork (now (area .entry)) (now (area .exit)) ⌝ }
+    requires { ⌜ ReadersOf (now area) (now readers) ⌝ }
+    requires { ⌜ Fitting (inputs (now area)) (now weights) ⌝ }
+    requires { ⌜ (first < length (now weights)) × (length (now lanes) ≡ 8288) ⌝ }
+    ensures { λ r. ⌜ weightedTo (now (area .entry)) (now (weights .entry)) first + r ≡ weightedTo (now (area .entry)) (now (weights .entry)) (first + 8) ⌝ }
+    ensures { λ _. ⌜ length (now (lanes .exit)) ≡ 8288 ⌝ }
 {
-    if weight == 0 {
+    if no_weight(weights, first) {
         return 0;
     }
-    change_pattern(area, lows, pattern);
-    weight as u64 * words::reliability_now(area) as u64
+    work_block(lanes, area, readers, first);
+    block_sum(lanes, area, first, weights)
 }
 
-// The weighted sum over all patterns in rising order, from an area whose figures are those of its own pattern.
-fn sum_over(area: &mut [u32], lows: &[u32; 1036], weights: &[u32]) -> u64
+// The weighted sum over all patterns, block by block. The area is only read: its words of figures may be those of another pattern.
+fn weighted_sum(area: &[u32], weights: &[u32]) -> u64
     requires { ⌜ Sound (now area) ⌝ }
-    requires { ⌜ Current (now area) ⌝ }
-    requires { ⌜ Lowest (now area) (now lows) (inputs (now area) + gates (now area)) ⌝ }
     requires { ⌜ Fitting (inputs (now area)) (now weights) ⌝ }
     ensures { λ r. ⌜ r ≡ weightedTo (now (area .entry)) (now (weights .entry)) (length (now (weights .entry))) ⌝ }
-    ensures { λ _. ⌜ SameWork (now (area .entry)) (now (area .exit)) ⌝ }
 {
+    let readers = live::count_readers(area);
+    let mut lanes = [0u32; 8288];
     let mut sum = 0;
-    let mut q = 0;
-    while q < weights.len() {
-        sum += weighted(area, lows, q as u32, weights[q]);
-        q += 1;
+    let mut first = 0;
+    while first < weights.len() {
+        sum += weighted_block(&mut lanes, area, &readers, first, weights);
+        first += 8;
     }
     sum
 }
 
-fn weighted_sum(area: &mut [u32], weights: &[u32]) -> u64
-    requires { ⌜ Sound (now area) ⌝ }
-    requires { ⌜ Fitting (inputs (now area)) (now weights) ⌝ }
-    ensures { λ r. ⌜ r ≡ weightedTo (now (area .entry)) (now (weights .entry)) (length (now (weights .entry))) ⌝ }
-    ensures { λ _. ⌜ SameWork (now (area .entry)) (now (area .exit)) ⌝ }
-{
-    words::work_gates(area);
-    let lows = lowest_inputs(area);
-    sum_over(area, &lows, weights)
-}
-
-// The weighted average of the reliability over all patterns. The area's own pattern is put back, and its figures are worked out afresh.
+// The weighted average of the reliability over all patterns; the area's figures are worked out afresh for its own pattern.
 pub fn average(area: &mut [u32], weights: &[u32]) -> u32
     requires { ⌜ Sound (now area) ⌝ }
     requires { ⌜ weightsJudgement (inputs (now area)) (now weights) ≡ fine ⌝ }
     ensures { λ r. ⌜ r ≡ averageOf (now (area .entry)) (now (weights .entry)) ⌝ }
     ensures { λ _. ⌜ now (area .exit) ≡ workAll (now (area .entry)) ⌝ }
 {
-    let own = area[3];
     let sum = weighted_sum(area, weights);
-    area[3] = own;
     words::work_all(area);
     rounding::rounded(sum, total_weight(weights)) as u32
 }

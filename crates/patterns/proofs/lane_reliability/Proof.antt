@@ -13,7 +13,8 @@ use Rattle.figure.proofs.Laws.{output-at-most}
 use Rattle.words.specs.Words.{gates, outputWords}
 use Rattle.words.proofs.Sound.{output-below}
 use Rattle.words.proofs.Loops.{output-at, output-count}
-use Rattle.patterns.specs.Lanes.{laneWord, laneProduct}
+use Rattle.lanes.specs.Lanes.{laneWord}
+use Rattle.patterns.specs.Blocks.{laneProduct}
 use Rattle.patterns.proofs.lane_reliability.Statement.{statement}
 use Rattle.patterns.proofs.lane_reliability.Tie as tie
 

@@ -1,19 +1,15 @@
--- Eight patterns at a time: the lanes hold eight words for each source, one for each pattern of a block.
-use Prim.Native.Nat.{ℕ, _+_, _*_, _/_, _%_, _^_, _<_}
+-- The walk in blocks of eight patterns: what the lanes hold of a block, and the reliability in a lane.
+use Prim.Native.Nat.{ℕ, _+_, _%_, _^_, _<_}
 use mathlib.Core.List.{List, [], _∷_}
 use mathlib.Core.Path.{_≡_}
-use mathlib.Core.Logic.{_≢_}
 use lib.ListN.{length, getD, set}
 use Rattle.rounding.specs.Rounding.{unitsInOne}
 use Rattle.figure.specs.Figure.{outputStep, failureOf}
+use Rattle.lanes.specs.Lanes.{laneWord}
 use Rattle.netlist.specs.Live.{readers}
 use Rattle.words.specs.Words.{inputs, outputWords, sourceWord}
 use Rattle.words.specs.Work.{workAll}
 use Rattle.live.specs.Net.{netOf}
-
--- lane l's word of source s
-abbrev pub laneWord : List ℕ → ℕ → ℕ → ℕ
-laneWord lanes l s = getD lanes (8 * s + l) 0
 
 -- the word of source s with everything worked out for pattern q
 unfoldable pub wordAt : List ℕ → ℕ → ℕ → ℕ
@@ -26,15 +22,6 @@ lanePattern ws first l = (first + l) % 2 ^ inputs ws
 -- counts has the live readers of every source
 abbrev pub ReadersOf : List ℕ → List ℕ → Type 0
 ReadersOf ws counts = (s : ℕ) → getD counts s 0 ≡ readers (netOf ws [] []) s
-
--- the inputs' words for the block that begins at `first`
-abbrev pub InputLanes : ℕ → ℕ → List ℕ → Type 0
-InputLanes n first lanes = (s l : ℕ) → s < n → l < 8 → laneWord lanes l s ≡ (first + l) / 2 ^ s % 2
-
--- row s of the lanes has been stored, and no other row has changed
-pub record RowStored (old new : List ℕ) (s : ℕ) (row : ℕ → ℕ) : Type 0 where
-  pub here : (l : ℕ) → l < 8 → laneWord new l s ≡ row l
-  pub other : (t l : ℕ) → t ≢ s → l < 8 → laneWord new l t ≡ laneWord old l t
 
 -- the lanes have the words of a block, for every input and for those of the first b gates that are live
 pub record Block (ws counts lanes : List ℕ) (first b : ℕ) : Type 0 where

@@ -1,4 +1,4 @@
--- `patterns::input_lanes` meets its contract: place 8 × s + l has lane l's bit s. Assumes nothing.
+-- `lanes::input_lanes` meets its contract: place 8 × s + l has lane l's bit s. Assumes nothing.
 use Prim.Native.Nat.{ℕ, _+_, _-_, _*_, _/_, _%_, _^_, _≤_, _<_}
 use mathlib.Core.Path.{_≡_, ap₂, _∙_}
 use native.Mathlib.Omega.{arith}
@@ -7,8 +7,8 @@ use borrow.Author.Needs.{needs}
 use lib.ListN.{length, getD, set, length-set}
 use lib.Pow.{shr-le}
 use lib.Seq.{getD-set-same, getD-set-other}
-use Rattle.patterns.proofs.input_lanes.Statement.{statement}
-use Rattle.patterns.proofs.input_lanes.Tie as tie
+use Rattle.lanes.proofs.input_lanes.Statement.{statement}
+use Rattle.lanes.proofs.input_lanes.Tie as tie
 
 abbrev Inv-loop : tie.InvT-loop
 Inv-loop lanes₀ inputs first at₀ lanes at =
