@@ -1,6 +1,6 @@
 -- `lanes::lanes_none` meets its contract: each turn fills in the word of one lane. Assumes nothing.
-use Prim.Native.Nat.{ℕ, _-_, _≤_, _<_}
-use mathlib.Core.Path.{_≡_, refl}
+use Prim.Native.Nat.{ℕ, _-_}
+use mathlib.Core.Path.{refl}
 use mathlib.Core.List.{[]}
 use native.Mathlib.Omega.{arith}
 use borrow.Author.Count.{below-none}
@@ -29,7 +29,10 @@ element-copy-out-word-none : tie.Need-element-copy-out-word-none Inv-loop μ-loo
 element-copy-out-word-none c = search needs
 
 word-none-requires : tie.Need-word-none-requires Inv-loop μ-loop
-word-none-requires c κs = (c .before .before .before .pre .1 (c .before .before .loop .l) (omega arith), c .before .before .before .pre .0)
+word-none-requires c κs =
+    let l = c .before .before .loop .l in
+    let s = c .before .before .before in
+    (s .pre .1 l (omega arith), s .pre .0)
 
 mul-words : tie.Need-mul-words Inv-loop μ-loop
 mul-words c = search needs

@@ -1,6 +1,6 @@
 -- `lanes::lanes_one` meets its contract: each turn fills in the word of one lane. Assumes nothing.
-use Prim.Native.Nat.{ℕ, _-_, _≤_, _<_}
-use mathlib.Core.Path.{_≡_, refl}
+use Prim.Native.Nat.{ℕ, _-_}
+use mathlib.Core.Path.{refl}
 use mathlib.Core.List.{[], _∷_}
 use native.Mathlib.Omega.{arith}
 use borrow.Author.Count.{below-none}
@@ -42,7 +42,10 @@ element-copy-out-word-one-2 : tie.Need-element-copy-out-word-one-2 Inv-loop μ-l
 element-copy-out-word-one-2 c = omega (arith, c .before .before .before .pre .1 .0 .inside)
 
 word-one-requires : tie.Need-word-one-requires Inv-loop μ-loop
-word-one-requires c κs = ((c .before .before .before .before .pre .1 .1 (c .before .before .before .loop .l) (omega arith), c .before .before .before .before .pre .0), c .before .before .before .before .pre .1 .0 .failure (c .before .before .before .loop .l) (omega arith))
+word-one-requires c κs =
+    let l = c .before .before .before .loop .l in
+    let s = c .before .before .before .before in
+    ((s .pre .1 .1 l (omega arith), s .pre .0), s .pre .1 .0 .failure l (omega arith))
 
 mul-words : tie.Need-mul-words Inv-loop μ-loop
 mul-words c = search needs

@@ -1,6 +1,6 @@
 -- `lanes::lanes_three` meets its contract: each turn fills in the word of one lane. Assumes nothing.
-use Prim.Native.Nat.{ℕ, _-_, _≤_, _<_}
-use mathlib.Core.Path.{_≡_, refl}
+use Prim.Native.Nat.{ℕ, _-_}
+use mathlib.Core.Path.{refl}
 use mathlib.Core.List.{[], _∷_}
 use native.Mathlib.Omega.{arith}
 use borrow.Author.Count.{below-none}
@@ -66,7 +66,10 @@ element-copy-out-word-three-4 : tie.Need-element-copy-out-word-three-4 Inv-loop 
 element-copy-out-word-three-4 c = omega (arith, c .before .before .before .before .before .pre .1 .0 .2 .inside)
 
 word-three-requires : tie.Need-word-three-requires Inv-loop μ-loop
-word-three-requires c κs = ((c .before .before .before .before .before .before .pre .1 .1 (c .before .before .before .before .before .loop .l) (omega arith), c .before .before .before .before .before .before .pre .0), (c .before .before .before .before .before .before .pre .1 .0 .0 .failure (c .before .before .before .before .before .loop .l) (omega arith), c .before .before .before .before .before .before .pre .1 .0 .1 .failure (c .before .before .before .before .before .loop .l) (omega arith), c .before .before .before .before .before .before .pre .1 .0 .2 .failure (c .before .before .before .before .before .loop .l) (omega arith)))
+word-three-requires c κs =
+    let l = c .before .before .before .before .before .loop .l in
+    let s = c .before .before .before .before .before .before in
+    ((s .pre .1 .1 l (omega arith), s .pre .0), (s .pre .1 .0 .0 .failure l (omega arith), s .pre .1 .0 .1 .failure l (omega arith), s .pre .1 .0 .2 .failure l (omega arith)))
 
 mul-words : tie.Need-mul-words Inv-loop μ-loop
 mul-words c = search needs
