@@ -16,10 +16,11 @@ use Rattle.lanes.proofs.lane_words.Tie as tie
 abbrev byPlaces : List ℕ → List ℕ
 byPlaces xs = getD xs 0 0 ∷ getD xs 1 0 ∷ getD xs 2 0 ∷ getD xs 3 0 ∷ []
 
--- the pins in lane l by their places, and as the contract has them
+-- the pins in lane l by their places
 abbrev placed : tie.Start → ℕ → ℕ → List Pin
 placed s k l = lanePins (s .args .lanes .now) l k (byPlaces (s .args .t5)) (byPlaces (s .args .t6))
 
+-- the pins in lane l as the contract has them
 abbrev pins : tie.Start → ℕ → List Pin
 pins s l = lanePins (s .args .lanes .now) l (s .args .kept) (s .args .t5) (s .args .t6)
 
