@@ -46,7 +46,13 @@ fn add_input(starts: &mut [u32; 8], lanes: &[u32; 8288], source: usize, weight: 
 }
 
 // The first `count` pins of the gate whose words start at `base`, where there are so many inputs.
-fn split_lanes(area: &[u32], lanes: &[u32; 8288], inputs: usize, base: usize, count: usize) -> LanePins
+fn split_lanes(
+    area: &[u32],
+    lanes: &[u32; 8288],
+    inputs: usize,
+    base: usize,
+    count: usize,
+) -> LanePins
     requires { ⌜ (count ≤ 4) × (base + 6 ≤ length (now area)) ⌝ }
     requires { ⌜ ((s l : ℕ) → s < inputs → l < 8 → failureOf (laneWord (now lanes) l s) ≡ 0) ⌝ }
     requires { ⌜ ((i : ℕ) → i < count → Readable (now lanes) (getD (now area) (base + 2 + i) 0)) ⌝ }
@@ -95,7 +101,14 @@ fn lanes_none(table: u32, flip: u32, starts: &[u32; 8]) -> [u32; 8]
 }
 
 // And where one, two, three and four pins may fail: s is a pin's source, a its weight.
-fn lanes_one(lanes: &[u32; 8288], table: u32, flip: u32, starts: &[u32; 8], s0: usize, a0: u32) -> [u32; 8]
+fn lanes_one(
+    lanes: &[u32; 8288],
+    table: u32,
+    flip: u32,
+    starts: &[u32; 8],
+    s0: usize,
+    a0: u32,
+) -> [u32; 8]
     requires { ⌜ flip ≤ unitsInOne ⌝ }
     requires { ⌜ Readable (now lanes) s0 ⌝ }
     requires { ⌜ ((l : ℕ) → l < 8 → getD (now starts) l 0 + a0 ≤ 15) ⌝ }
@@ -110,7 +123,16 @@ fn lanes_one(lanes: &[u32; 8288], table: u32, flip: u32, starts: &[u32; 8], s0: 
     words
 }
 
-fn lanes_two(lanes: &[u32; 8288], table: u32, flip: u32, starts: &[u32; 8], s0: usize, a0: u32, s1: usize, a1: u32) -> [u32; 8]
+fn lanes_two(
+    lanes: &[u32; 8288],
+    table: u32,
+    flip: u32,
+    starts: &[u32; 8],
+    s0: usize,
+    a0: u32,
+    s1: usize,
+    a1: u32,
+) -> [u32; 8]
     requires { ⌜ flip ≤ unitsInOne ⌝ }
     requires { ⌜ (Readable (now lanes) s0) × (Readable (now lanes) s1) ⌝ }
     requires { ⌜ ((l : ℕ) → l < 8 → getD (now starts) l 0 + a0 + a1 ≤ 15) ⌝ }
@@ -119,13 +141,32 @@ fn lanes_two(lanes: &[u32; 8288], table: u32, flip: u32, starts: &[u32; 8], s0: 
     let mut words = [0u32; 8];
     let mut l = 0;
     while l < 8 {
-        words[l] = figure::word_two(table, starts[l], lanes[8 * s0 + l], a0, lanes[8 * s1 + l], a1, flip);
+        words[l] = figure::word_two(
+            table,
+            starts[l],
+            lanes[8 * s0 + l],
+            a0,
+            lanes[8 * s1 + l],
+            a1,
+            flip,
+        );
         l += 1;
     }
     words
 }
 
-fn lanes_three(lanes: &[u32; 8288], table: u32, flip: u32, starts: &[u32; 8], s0: usize, a0: u32, s1: usize, a1: u32, s2: usize, a2: u32) -> [u32; 8]
+fn lanes_three(
+    lanes: &[u32; 8288],
+    table: u32,
+    flip: u32,
+    starts: &[u32; 8],
+    s0: usize,
+    a0: u32,
+    s1: usize,
+    a1: u32,
+    s2: usize,
+    a2: u32,
+) -> [u32; 8]
     requires { ⌜ flip ≤ unitsInOne ⌝ }
     requires { ⌜ (Readable (now lanes) s0) × (Readable (now lanes) s1) × (Readable (now lanes) s2) ⌝ }
     requires { ⌜ ((l : ℕ) → l < 8 → getD (now starts) l 0 + a0 + a1 + a2 ≤ 15) ⌝ }
@@ -134,13 +175,36 @@ fn lanes_three(lanes: &[u32; 8288], table: u32, flip: u32, starts: &[u32; 8], s0
     let mut words = [0u32; 8];
     let mut l = 0;
     while l < 8 {
-        words[l] = figure::word_three(table, starts[l], lanes[8 * s0 + l], a0, lanes[8 * s1 + l], a1, lanes[8 * s2 + l], a2, flip);
+        words[l] = figure::word_three(
+            table,
+            starts[l],
+            lanes[8 * s0 + l],
+            a0,
+            lanes[8 * s1 + l],
+            a1,
+            lanes[8 * s2 + l],
+            a2,
+            flip,
+        );
         l += 1;
     }
     words
 }
 
-fn lanes_four(lanes: &[u32; 8288], table: u32, flip: u32, starts: &[u32; 8], s0: usize, a0: u32, s1: usize, a1: u32, s2: usize, a2: u32, s3: usize, a3: u32) -> [u32; 8]
+fn lanes_four(
+    lanes: &[u32; 8288],
+    table: u32,
+    flip: u32,
+    starts: &[u32; 8],
+    s0: usize,
+    a0: u32,
+    s1: usize,
+    a1: u32,
+    s2: usize,
+    a2: u32,
+    s3: usize,
+    a3: u32,
+) -> [u32; 8]
     requires { ⌜ flip ≤ unitsInOne ⌝ }
     requires { ⌜ (Readable (now lanes) s0) × (Readable (now lanes) s1) × (Readable (now lanes) s2) × (Readable (now lanes) s3) ⌝ }
     requires { ⌜ ((l : ℕ) → l < 8 → getD (now starts) l 0 + a0 + a1 + a2 + a3 ≤ 15) ⌝ }
@@ -149,14 +213,34 @@ fn lanes_four(lanes: &[u32; 8288], table: u32, flip: u32, starts: &[u32; 8], s0:
     let mut words = [0u32; 8];
     let mut l = 0;
     while l < 8 {
-        words[l] = figure::word_four(table, starts[l], lanes[8 * s0 + l], a0, lanes[8 * s1 + l], a1, lanes[8 * s2 + l], a2, lanes[8 * s3 + l], a3, flip);
+        words[l] = figure::word_four(
+            table,
+            starts[l],
+            lanes[8 * s0 + l],
+            a0,
+            lanes[8 * s1 + l],
+            a1,
+            lanes[8 * s2 + l],
+            a2,
+            lanes[8 * s3 + l],
+            a3,
+            flip,
+        );
         l += 1;
     }
     words
 }
 
 // A gate's words in all lanes from its split pins.
-fn lane_words(lanes: &[u32; 8288], table: u32, flip: u32, kept: usize, sources: [usize; 4], weights: [u32; 4], starts: &[u32; 8]) -> [u32; 8]
+fn lane_words(
+    lanes: &[u32; 8288],
+    table: u32,
+    flip: u32,
+    kept: usize,
+    sources: [usize; 4],
+    weights: [u32; 4],
+    starts: &[u32; 8],
+) -> [u32; 8]
     requires { ⌜ (kept ≤ 4) × (flip ≤ unitsInOne) ⌝ }
     requires { ⌜ ((i : ℕ) → i < kept → Readable (now lanes) (getD sources i 0)) ⌝ }
     requires { ⌜ ((l : ℕ) → l < 8 → getD (now starts) l 0 + room (lanePins (now lanes) l kept sources weights) ≤ 15) ⌝ }
@@ -165,9 +249,42 @@ fn lane_words(lanes: &[u32; 8288], table: u32, flip: u32, kept: usize, sources: 
     match kept {
         0 => lanes_none(table, flip, starts),
         1 => lanes_one(lanes, table, flip, starts, sources[0], weights[0]),
-        2 => lanes_two(lanes, table, flip, starts, sources[0], weights[0], sources[1], weights[1]),
-        3 => lanes_three(lanes, table, flip, starts, sources[0], weights[0], sources[1], weights[1], sources[2], weights[2]),
-        _ => lanes_four(lanes, table, flip, starts, sources[0], weights[0], sources[1], weights[1], sources[2], weights[2], sources[3], weights[3]),
+        2 => lanes_two(
+            lanes,
+            table,
+            flip,
+            starts,
+            sources[0],
+            weights[0],
+            sources[1],
+            weights[1],
+        ),
+        3 => lanes_three(
+            lanes,
+            table,
+            flip,
+            starts,
+            sources[0],
+            weights[0],
+            sources[1],
+            weights[1],
+            sources[2],
+            weights[2],
+        ),
+        _ => lanes_four(
+            lanes,
+            table,
+            flip,
+            starts,
+            sources[0],
+            weights[0],
+            sources[1],
+            weights[1],
+            sources[2],
+            weights[2],
+            sources[3],
+            weights[3],
+        ),
     }
 }
 
@@ -198,6 +315,14 @@ pub fn work_row(lanes: &mut [u32; 8288], area: &[u32], inputs: usize, base: usiz
     let sources = pins.sources;
     let weights = pins.weights;
     let starts = pins.starts;
-    let words = lane_words(lanes, area[base + 1], area[base + 6], pins.kept, sources, weights, &starts);
+    let words = lane_words(
+        lanes,
+        area[base + 1],
+        area[base + 6],
+        pins.kept,
+        sources,
+        weights,
+        &starts,
+    );
     store_row(lanes, source, words);
 }
