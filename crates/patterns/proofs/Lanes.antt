@@ -5,7 +5,7 @@ use mathlib.Core.Logic.{⊎-elim}
 use mathlib.Core.Path.{_≡_, refl, sym, ap, ap₂, subst, _∙_}
 use native.Mathlib.Nat.{eq-or-lt-of-le, mod-lt, mod-eq-of-lt}
 use native.Mathlib.Omega.{arith}
-use lib.ListN.{length, getD, set}
+use lib.ListN.{length, getD, set, take, drop, length-take, length-drop}
 use lib.Pow.{pow-pos, field, mod-mod-pow}
 use lib.Seq.{getD-set-same, getD-set-other}
 use Rattle.rounding.specs.Rounding.{unitsInOne}
@@ -14,17 +14,18 @@ use Rattle.netlist.specs.Netlist.{gateAt}
 use Rattle.netlist.specs.Live.{count, output-reads, gate-reads}
 use Rattle.netlist.proofs.Count.{count-at}
 use Rattle.netlist.proofs.Live.{live-readers, readers-live}
-use Rattle.words.specs.Words.{inputs, gates, pattern, table, flip, usedPins, outputWords, sourceWord}
+use Rattle.words.specs.Words.{inputs, gates, pattern, table, flip, pinCount, usedPins, outputWords, sourceWord}
 use Rattle.words.specs.Rules.{Sound}
 use Rattle.words.specs.Work.{gateFigure, productFrom, reliabilityNow, workAll}
 use Rattle.words.proofs.Frame.{SameFrame, same-inputs, same-gates, same-table, same-trans, same-used-pins, same-output-words, same-store-pattern, same-work-all, work-all-other}
 use Rattle.words.proofs.Sound.{sound-store-pattern, sound-work-all, source-word-fits, used-pin-below, output-below}
+use Rattle.words.proofs.Loops.{used-at, part-at}
 use Rattle.live.specs.Net.{netOf}
 use Rattle.live.proofs.Net.{gate-at, gate-count, sound-pins}
 use Rattle.fresh.proofs.Sources.{map-same, source-input, source-gate, source-cases}
 use Rattle.fresh.proofs.WorkAll.{work-all-fresh}
 use Rattle.calls.specs.Calls.{reliabilityAt}
-use Rattle.lanes.specs.Lanes.{laneWord, InputLanes, RowStored}
+use Rattle.lanes.specs.Lanes.{laneWord, InputLanes, RowStored, Readable, laneGate}
 use Rattle.patterns.specs.Blocks.{wordAt, lanePattern, ReadersOf, Block, OutputLanes, laneProduct}
 
 -- ---- the words afresh for a pattern
@@ -212,3 +213,42 @@ block-outputs ws counts lanes first sound counted block k l inside few =
     block-source ws counts lanes first (gates ws) (getD (outputWords ws) k 0) l block (output-below ws sound k inside)
     (live-output ws counts k sound counted inside)
     few
+
+-- ---- what working out a row asks for, and what it leaves
+
+-- an input never fails
+pub block-sure : (ws counts lanes : List ℕ) (first b s l : ℕ) → Sound ws → Block ws counts lanes first b → s < inputs ws → l < 8 → failureOf (laneWord lanes l s) ≡ 0
+block-sure ws counts lanes first b s l sound block inside lane =
+    let q = lanePattern ws first l in
+    let bit : q / 2 ^ s % 2 / 2 ≡ 0 = omega arith in
+    ap failureOf (block .input-words s l inside lane ∙ word-input ws q s sound inside) ∙ bit
+
+-- a live gate's pins can be read
+pub block-readable : (ws counts lanes : List ℕ) (first j i : ℕ) → Sound ws → ReadersOf ws counts → j < gates ws → 0 < getD counts (inputs ws + j) 0
+    → Block ws counts lanes first j → i < pinCount ws j → Readable lanes (getD ws (8 + 8 * j + 2 + i) 0)
+block-readable ws counts lanes first j i sound readers inside live block l =
+    let few = sound .gate j inside .pin-count in
+    let many : i < length (usedPins ws j) = omega (arith, ap length (used-at ws sound j inside), length-take (pinCount ws j) (drop (8 + 8 * j + 2) ws), length-drop (8 + 8 * j + 2) ws, sound .long) in
+    let at : getD ws (8 + 8 * j + 2 + i) 0 ≡ getD (usedPins ws j) i 0
+    = sym (part-at ws (8 + 8 * j + 2) (pinCount ws j) i l) ∙ ap (λ (xs : List ℕ). getD xs i 0) (used-at ws sound j inside) in
+    let below : getD (usedPins ws j) i 0 < inputs ws + j = used-pin-below ws sound j inside i many in
+    record {
+      inside = omega (arith, at, sound .inputs-fit, sound .gates-fit);
+      failure =
+          λ k lane.
+          rw (at, block-pin ws counts lanes first j i k sound readers inside live block many lane)
+          (word-fits ws (lanePattern ws first k) (getD (usedPins ws j) i 0) sound (lane-pattern-fits ws first k) (omega arith));
+    }
+
+-- its row stored
+pub block-row : (ws counts old new : List ℕ) (first j : ℕ) → Sound ws → ReadersOf ws counts → j < gates ws → 0 < getD counts (inputs ws + j) 0
+    → Block ws counts old first j → RowStored old new (inputs ws + j) (laneGate ws old (8 + 8 * j)) → Block ws counts new first (j + 1)
+block-row ws counts old new first j sound readers inside live block stored =
+    block-live ws counts old new first j sound readers inside live block
+    (record {
+      here =
+          λ l lane.
+          stored .here l lane
+          ∙ ap (λ (xs : List ℕ). gateWord unitsInOne (table ws j) (map (laneWord old l) xs) (flip ws j)) (used-at ws sound j inside);
+      other = stored .other;
+    })

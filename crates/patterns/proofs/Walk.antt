@@ -1,9 +1,9 @@
--- The laws of the walk: bounds of sums, and what storing a pattern and working out the gates keeps. Assumes nothing.
+-- The laws of the weighted sum: its bounds, and the average that comes of it. Assumes nothing.
 use Prim.Native.Nat.{ℕ, zero, suc, _+_, _*_, _^_, _≤_, _<_}
 use mathlib.Core.Bool.{false, true≢false}
 use mathlib.Core.List.{List}
 use mathlib.Core.Logic.{⊎-elim, by-cases}
-use mathlib.Core.Path.{_≡_, refl, sym, ap, ap₂, subst, _∙_}
+use mathlib.Core.Path.{_≡_, refl, sym, ap, ap₂, _∙_}
 use native.Mathlib.Nat.{eq-or-lt-of-le, le-of-suc-le-suc, mul-le-mul-right, mul-comm}
 use native.Mathlib.Numerals.{add-one}
 use native.Mathlib.Decide.{decLt}
@@ -11,22 +11,17 @@ use native.Mathlib.Omega.{arith}
 use lib.Dec.{eqb}
 use lib.ListN.{length, getD, set}
 use lib.Pow.{pow-mono}
-use lib.Seq.{getD-set-same, getD-set-other, set-getD}
 use borrow.Author.Tests.{eq-eqb}
 use Rattle.rounding.specs.Rounding.{unitsInOne, roundDiv}
 use Rattle.rounding.proofs.Laws.{at-most}
 use Rattle.netlist.specs.Average.{sumBelow}
-use Rattle.words.specs.Words.{inputs, gates, pattern, reliabilityWord, flip}
+use Rattle.words.specs.Words.{inputs}
 use Rattle.words.specs.Rules.{allZero, Sound}
-use Rattle.words.specs.Work.{workGates, reliabilityNow, workAll}
-use Rattle.words.proofs.Frame.{SameFrame, same-inputs, same-gates, same-sym, same-trans, same-store-pattern, same-work-gates, work-gates-other, work-reliability-same}
-use Rattle.words.proofs.Sound.{sound-store-pattern, sound-work-gates, sound-work-all}
+use Rattle.words.proofs.Sound.{sound-store-pattern, sound-work-all}
 use Rattle.rules.proofs.Every.{zero-part, holds-every}
-use Rattle.fresh.proofs.WorkAll.{fresh-gates}
-use Rattle.fresh.proofs.Unique.{work-all-same}
 use Rattle.calls.specs.Calls.{reliabilityAt, averageOf}
 use Rattle.patterns.specs.Weights.{largestWeight}
-use Rattle.patterns.specs.Walk.{Fitting, weightedTo, workedAt, Current, SameWork}
+use Rattle.patterns.specs.Walk.{Fitting, weightedTo}
 
 -- ---- sums
 

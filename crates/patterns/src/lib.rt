@@ -1,19 +1,20 @@
 // The walk over all patterns of the call "average", on an area that keeps rule 14, and the test of the weights, refusal 12.
 ghost use mathlib.Core.Path.{_≡_};
-ghost use Prim.Native.Nat.{ℕ, _+_, _*_, _/_, _^_, _<_, _≤_};
+ghost use Prim.Native.Nat.{ℕ, _+_, _/_, _<_, _≤_};
 ghost use mathlib.Core.Bool.{true};
 ghost use lib.ListN.{length, getD};
 ghost use Rattle.netlist.specs.Average.{sumBelow};
 ghost use Rattle.rounding.specs.Rounding.{unitsInOne};
+ghost use Rattle.lanes.specs.Lanes.{laneWord};
 ghost use Rattle.words.specs.Words.{inputs, gates, outputWords};
 ghost use Rattle.words.specs.Rules.{allZero, Sound};
-ghost use Rattle.words.specs.Work.{workGate, workAll};
+ghost use Rattle.words.specs.Work.{workAll};
 ghost use Rattle.image.specs.Judgement.{fine};
 ghost use Rattle.calls.specs.Judged.{weightsJudgement};
-ghost use Rattle.calls.specs.Calls.{reliabilityAt, averageOf};
+ghost use Rattle.calls.specs.Calls.{averageOf};
 ghost use Rattle.patterns.specs.Weights.{weightsAnswer, FirstHeavy};
-ghost use Rattle.patterns.specs.Walk.{Fitting, weightedTo, workedAt, Current, SameWork, Lowest};
-ghost use Rattle.patterns.specs.Lanes.{laneWord, InputLanes, RowStored, OutputLanes, laneProduct};
+ghost use Rattle.patterns.specs.Walk.{Fitting, weightedTo};
+ghost use Rattle.patterns.specs.Blocks.{ReadersOf, Block, OutputLanes, laneProduct};
 
 const LARGEST_WEIGHT: u32 = 1_048_575;
 

@@ -7,7 +7,7 @@ use borrow.Author.Needs.{needs}
 use lib.ListN.{getD}
 use Rattle.rounding.specs.Rounding.{unitsInOne}
 use Rattle.figure.specs.Steps.{Pin, room, pinsWord}
-use Rattle.figure.proofs.Index.{four-of}
+use Rattle.figure.proofs.Four.{four-of}
 use Rattle.lanes.specs.Lanes.{lanePins}
 use Rattle.lanes.proofs.lane_words.Statement.{statement}
 use Rattle.lanes.proofs.lane_words.Tie as tie
