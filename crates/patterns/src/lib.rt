@@ -157,7 +157,13 @@ fn work_block(lanes: &mut [u32; 8288], area: &[u32], readers: &[u32; 1036], firs
 }
 
 // What the eight patterns from `first` on add to the weighted sum, worked out unless none of them has a weight.
-fn weighted_block(lanes: &mut [u32; 8288], area: &[u32], readers: &[u32; 1036], first: usize, weights: &[u32]) -> u64
+fn weighted_block(
+    lanes: &mut [u32; 8288],
+    area: &[u32],
+    readers: &[u32; 1036],
+    first: usize,
+    weights: &[u32],
+) -> u64
     requires { ⌜ Sound (now area) ⌝ }
     requires { ⌜ ReadersOf (now area) (now readers) ⌝ }
     requires { ⌜ Fitting (inputs (now area)) (now weights) ⌝ }

@@ -1,20 +1,17 @@
 -- `patterns::average` meets its contract. Assumes nothing.
 use Prim.Native.Nat.{ℕ, _*_, _≤_, _<_}
 use mathlib.Core.List.{List}
-use mathlib.Core.Path.{_≡_, refl, sym, ap, ap₂, _∙_}
+use mathlib.Core.Path.{_≡_, sym, ap, ap₂, _∙_}
 use native.Mathlib.Omega.{arith}
-use borrow.Author.Needs.{needs}
 use lib.ListN.{length, getD}
 use Rattle.rounding.specs.Rounding.{unitsInOne, roundDiv}
 use Rattle.netlist.specs.Average.{sumBelow}
-use Rattle.words.specs.Words.{inputs, pattern}
-use Rattle.words.specs.Work.{workAll}
+use Rattle.words.specs.Words.{inputs}
 use Rattle.words.proofs.Frame.{work-all-length}
-use Rattle.words.proofs.Sound.{sound-store-pattern}
 use Rattle.patterns.specs.Weights.{largestWeight}
 use Rattle.patterns.specs.Walk.{Fitting, weightedTo}
 use Rattle.patterns.proofs.Weights.{fine-fitting, fine-counts}
-use Rattle.patterns.proofs.Walk.{length-small, weighted-fits, total-fits, some-weight, average-is, average-fits, put-back}
+use Rattle.patterns.proofs.Walk.{length-small, weighted-fits, total-fits, some-weight, average-is, average-fits}
 use Rattle.patterns.proofs.average.Statement.{statement}
 use Rattle.patterns.proofs.average.Tie as tie
 
@@ -33,66 +30,50 @@ total s = sumBelow (length (weights s)) (λ q. getD (weights s) q 0)
 some : (s : tie.Start) → 0 < total s
 some s = some-weight (weights s) (fine-counts (inputs (area s)) (weights s) (s .pre .1))
 
--- the answer, and the words left
-answer : (c : tie.After-rounded) → c .rounded .result ≡ roundDiv (weightedTo (area (c .before .before .before .before .before .before .before .before .before .before .before .before .before)) (weights (c .before .before .before .before .before .before .before .before .before .before .before .before .before)) (length (weights (c .before .before .before .before .before .before .before .before .before .before .before .before .before)))) (total (c .before .before .before .before .before .before .before .before .before .before .before .before .before))
-answer c = c .rounded .ensures ∙ ap₂ roundDiv (c .before .before .before .before .before .before .before .before .weighted-sum .ensures .0) (c .before .total-weight .ensures)
-
-left : (c : tie.After-rounded) → c .before .before .before .before .work-all .last .0 ≡ workAll (area (c .before .before .before .before .before .before .before .before .before .before .before .before .before))
-left c =
-    let s = c .before .before .before .before .before .before .before .before .before .before .before .before .before in
-    c .before .before .before .before .work-all .ensures ∙ put-back (area s) (c .before .before .before .before .before .before .before .before .weighted-sum .last .0) (pattern (area s)) (s .pre .0) (c .before .before .before .before .before .before .before .before .weighted-sum .ensures .1) refl
-
-slice-read-own : tie.Need-slice-read-own
-slice-read-own c = search needs
+-- the answer
+answer : (c : tie.After-rounded) → c .rounded .result ≡ roundDiv (weightedTo (area (c .before .before .before .before .before .before .before .before .before .before)) (weights (c .before .before .before .before .before .before .before .before .before .before)) (length (weights (c .before .before .before .before .before .before .before .before .before .before)))) (total (c .before .before .before .before .before .before .before .before .before .before))
+answer c = c .rounded .ensures ∙ ap₂ roundDiv (c .before .before .before .before .before .before .weighted-sum .ensures) (c .before .total-weight .ensures)
 
 weighted-sum-requires : tie.Need-weighted-sum-requires
 weighted-sum-requires c κs =
-    let s = c .before .before .before .before in
+    let s = c .before .before .before in
     (s .pre .0, fit s)
 
-slice-write-area : tie.Need-slice-write-area
-slice-write-area c = search needs
-
 work-all-requires : tie.Need-work-all-requires
-work-all-requires c κs =
-    let s = c .before .before .before .before .before .before .before .before in
-    let e = c .before .before .before .weighted-sum .ensures .1 in
-    sound-store-pattern (c .before .before .before .weighted-sum .last .0) (pattern (area s)) (e .sound) (rw (e .input-count) (s .pre .0 .pattern-fits))
+work-all-requires c κs = c .before .before .before .before .before .pre .0
 
 total-weight-requires : tie.Need-total-weight-requires
 total-weight-requires c κs =
-    let s = c .before .before .before .before .before .before .before .before .before .before .before in
+    let s = c .before .before .before .before .before .before .before .before in
     length-small (area s) (weights s) (s .pre .0) (fit s)
 
 rounded-requires : tie.Need-rounded-requires
 rounded-requires c κs =
-    let s = c .before .before .before .before .before .before .before .before .before .before .before .before in
+    let s = c .before .before .before .before .before .before .before .before .before in
     let n = length (weights s) in
-    let sum : c .before .before .before .before .before .before .before .weighted-sum .result ≤ unitsInOne * total s
-    = rw (c .before .before .before .before .before .before .before .weighted-sum .ensures .0) (weighted-fits (area s) (weights s) (s .pre .0) (fit s) n (omega arith)) in
+    let sum : c .before .before .before .before .before .weighted-sum .result ≤ unitsInOne * total s
+    = rw (c .before .before .before .before .before .weighted-sum .ensures) (weighted-fits (area s) (weights s) (s .pre .0) (fit s) n (omega arith)) in
     let most : total s ≤ 4096 * largestWeight = total-fits (area s) (weights s) (s .pre .0) (fit s) n (omega arith) in
     (omega (arith, c .total-weight .ensures, some s), omega (arith, c .total-weight .ensures))
 
 cast-result : tie.Need-cast-result
 cast-result c =
-    let s = c .before .before .before .before .before .before .before .before .before .before .before .before .before in
+    let s = c .before .before .before .before .before .before .before .before .before .before in
     omega (arith, answer c, average-fits (area s) (weights s) (s .pre .0) (fit s) (some s))
 
 same-length : tie.Need-same-length
-same-length c = ap length (left c) ∙ work-all-length (area (c .before .before .before .before .before .before .before .before .before .before .before .before .before))
+same-length c = ap length (c .before .before .before .before .work-all .ensures) ∙ work-all-length (area (c .before .before .before .before .before .before .before .before .before .before))
 
 returns : tie.Need-returns
 returns c =
-    let s = c .before .before .before .before .before .before .before .before .before .before .before .before .before in
-    (answer c ∙ sym (average-is (area s) (weights s) (s .pre .0) (fit s)), left c)
+    let s = c .before .before .before .before .before .before .before .before .before .before in
+    (answer c ∙ sym (average-is (area s) (weights s) (s .pre .0) (fit s)), c .before .before .before .before .work-all .ensures)
 
 pub average-spec : {M : Type 1} → statement M
 average-spec =
     tie.close
     (tie.spec
-    slice-read-own
     weighted-sum-requires
-    slice-write-area
     work-all-requires
     total-weight-requires
     rounded-requires

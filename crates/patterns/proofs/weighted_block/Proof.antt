@@ -29,8 +29,7 @@ work-block-requires c κs =
 
 block-sum-requires : tie.Need-block-sum-requires
 block-sum-requires c κs =
-    let s = c .before .before .before .before .before .before .before in
-    (
+    let s = c .before .before .before .before .before .before .before in (
       s .pre .0,
       (
         s .pre .1 .1 .0,

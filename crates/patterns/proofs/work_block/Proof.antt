@@ -91,14 +91,12 @@ loop-again c =
     let l = c .before .before .before .loop in
     let inside : l .gate < gates ws = omega arith in
     ⊎-elim
-    (λ w.
-    (
+    (λ w. (
       omega arith,
       rw (w .3) (w .2 .ensures .1),
       rw (w .3) (block-row ws counts (l .lanes) _ (s .args .first) (l .gate) (s .pre .0) (s .pre .1 .0) inside (w .0 .taken) (l .inv .2) (w .2 .ensures .0)),
     ))
-    (λ w.
-    (
+    (λ w. (
       omega arith,
       rw (w .1) (l .inv .1),
       rw (w .1) (block-dead ws counts (l .lanes) (s .args .first) (l .gate) (omega (arith, w .0 .left)) (l .inv .2)),
