@@ -232,7 +232,7 @@ pub fn set_units(area: &mut [u32], gate: usize, units: u32)
 {
     let source = index(area[0]) + gate;
     area[8 + 8 * gate + 6] = units;
-    work_gate(area, gate);
+    work_gate(area, gate); // before the gates that read it
     work_marked(area, mark_of(source), gate + 1);
     work_reliability(area);
 }

@@ -72,7 +72,7 @@ work-row-requires c κs =
         (g .pin-count, g .flip-fits),
         (
           λ t k below lane. block-sure ws counts (l .lanes) (s .args .first) (l .gate) t k sound (l .inv .2) below lane,
-          λ i below. block-readable ws counts (l .lanes) (s .args .first) (l .gate) i sound (s .pre .1 .0) inside (c .before .if1 .taken) (l .inv .2) below,
+          λ i below. block-readable ws counts (l .lanes) (s .args .first) (l .gate) i sound (s .pre .1 .0) inside (omega (arith, c .before .if1 .taken)) (l .inv .2) below,
         ),
       ),
     )
@@ -94,7 +94,7 @@ loop-again c =
     (λ w. (
       omega arith,
       rw (w .3) (w .2 .ensures .1),
-      rw (w .3) (block-row ws counts (l .lanes) _ (s .args .first) (l .gate) (s .pre .0) (s .pre .1 .0) inside (w .0 .taken) (l .inv .2) (w .2 .ensures .0)),
+      rw (w .3) (block-row ws counts (l .lanes) _ (s .args .first) (l .gate) (s .pre .0) (s .pre .1 .0) inside (omega (arith, w .0 .taken)) (l .inv .2) (w .2 .ensures .0)),
     ))
     (λ w. (
       omega arith,
