@@ -170,8 +170,8 @@ split-last words R sources i weight start kept l before =
     (ap (λ (xs : List ℕ). kept ++ numbered weight (map R xs)) (drop-of-length-le sources l) ∙ append-none kept)
     before
 
--- a pin more in two arrays
-pins-append : (xs ys : List ℕ) (x y : ℕ) → length xs ≡ length ys → pinsOf (xs ++ (x ∷ [])) (ys ++ (y ∷ [])) ≡ pinsOf xs ys ++ (record { word = x; weight = y } ∷ [])
+-- a pin more in two lists of one length, and in two arrays
+pub pins-append : (xs ys : List ℕ) (x y : ℕ) → length xs ≡ length ys → pinsOf (xs ++ (x ∷ [])) (ys ++ (y ∷ [])) ≡ pinsOf xs ys ++ (record { word = x; weight = y } ∷ [])
 pins-append [] [] x y e = refl
 pins-append [] (b ∷ ys) x y e = absurd (omega arith)
 pins-append (a ∷ xs) [] x y e = absurd (omega arith)

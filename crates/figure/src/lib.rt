@@ -191,54 +191,29 @@ pub fn word_four(
     word_of(values[0], flip, right)
 }
 
-// A gate's word where the first `count` pins of these words and weights may fail.
-pub fn pins_word(
-    table: u32,
-    start: u32,
-    count: usize,
-    words: [u32; 4],
-    weights: [u32; 4],
-    flip: u32,
-) -> u32
+// A gate's word where the first `count` pins may fail, with these words and weights.
+pub fn pins_word(table: u32, start: u32, count: usize, w: [u32; 4], a: [u32; 4], flip: u32) -> u32
     requires { ⌜ (count ≤ 4) × (flip ≤ unitsInOne) ⌝ }
-    requires { ⌜ start + room (firstPins count words weights) ≤ 15 ⌝ }
-    requires { ⌜ ((i : ℕ) → i < count → getD words i 0 / 2 ≤ unitsInOne) ⌝ }
-    ensures { λ r. ⌜ r ≡ pinsWord unitsInOne table start (firstPins count words weights) flip ⌝ }
+    requires { ⌜ start + room (firstPins count w a) ≤ 15 ⌝ }
+    requires { ⌜ ((i : ℕ) → i < count → getD w i 0 / 2 ≤ unitsInOne) ⌝ }
+    ensures { λ r. ⌜ r ≡ pinsWord unitsInOne table start (firstPins count w a) flip ⌝ }
 {
     match count {
         0 => word_none(table, start, flip),
-        1 => word_one(table, start, words[0], weights[0], flip),
-        2 => word_two(
-            table,
-            start,
-            words[0],
-            weights[0],
-            words[1],
-            weights[1],
-            flip,
-        ),
-        3 => word_three(
-            table,
-            start,
-            words[0],
-            weights[0],
-            words[1],
-            weights[1],
-            words[2],
-            weights[2],
-            flip,
-        ),
+        1 => word_one(table, start, w[0], a[0], flip),
+        2 => word_two(table, start, w[0], a[0], w[1], a[1], flip),
+        3 => word_three(table, start, w[0], a[0], w[1], a[1], w[2], a[2], flip),
         _ => word_four(
             table,
             start,
-            words[0],
-            weights[0],
-            words[1],
-            weights[1],
-            words[2],
-            weights[2],
-            words[3],
-            weights[3],
+            w[0],
+            a[0],
+            w[1],
+            a[1],
+            w[2],
+            a[2],
+            w[3],
+            a[3],
             flip,
         ),
     }

@@ -9,15 +9,8 @@ use lib.ListN.{length, getD, take, drop, set, length-drop, length-map}
 use lib.Seq.{getD-take, getD-drop, take-suc-set, length-take-le, getD-set-same, getD-set-other}
 use Rattle.figure.specs.Figure.{failureOf}
 use Rattle.figure.specs.Steps.{Pin, pinsOf, numbered, Split}
-use Rattle.figure.proofs.Split.{split-first, split-room, split-without, split-kept, split-last}
+use Rattle.figure.proofs.Split.{split-first, split-room, split-without, split-kept, split-last, pins-append}
 use Rattle.lanes.specs.Lanes.{laneWord, lanePins, Readable}
-
--- a pin more in two lists of one length
-pins-append : (xs ys : List ℕ) (x y : ℕ) → length xs ≡ length ys → pinsOf (xs ++ (x ∷ [])) (ys ++ (y ∷ [])) ≡ pinsOf xs ys ++ (record { word = x; weight = y } ∷ [])
-pins-append [] [] x y e = refl
-pins-append [] (b ∷ ys) x y e = absurd (omega arith)
-pins-append (a ∷ xs) [] x y e = absurd (omega arith)
-pins-append (a ∷ xs) (b ∷ ys) x y e = ap (λ (ps : List Pin). record { word = a; weight = b } ∷ ps) (pins-append xs ys x y (omega arith))
 
 -- a pin more in the arrays of sources and weights
 pub lane-more : (lanes : List ℕ) (l k : ℕ) (sources weights : List ℕ) (s a : ℕ) → k < length sources → k < length weights

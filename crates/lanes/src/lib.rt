@@ -24,11 +24,11 @@ pub fn input_lanes(lanes: &mut [u32; 8288], inputs: usize, first: usize)
 }
 
 // A gate's pins in all lanes. An input never fails, so a pin that reads one only moves the index a lane starts from; the others are kept.
-pub struct LanePins {
-    pub kept: usize,
-    pub sources: [usize; 4],
-    pub weights: [u32; 4],
-    pub starts: [u32; 8],
+struct LanePins {
+    kept: usize,
+    sources: [usize; 4],
+    weights: [u32; 4],
+    starts: [u32; 8],
 }
 
 // What a pin of this weight adds to the start of each lane, where it reads this source.
@@ -231,59 +231,50 @@ fn lanes_four(
     words
 }
 
-// A gate's words in all lanes from its split pins.
+// A gate's words in all lanes from its split pins: s has the sources that are kept, a their weights.
 fn lane_words(
     lanes: &[u32; 8288],
     table: u32,
     flip: u32,
     kept: usize,
-    sources: [usize; 4],
-    weights: [u32; 4],
+    s: [usize; 4],
+    a: [u32; 4],
     starts: &[u32; 8],
 ) -> [u32; 8]
     requires { ⌜ (kept ≤ 4) × (flip ≤ unitsInOne) ⌝ }
-    requires { ⌜ ((i : ℕ) → i < kept → Readable (now lanes) (getD sources i 0)) ⌝ }
-    requires { ⌜ ((l : ℕ) → l < 8 → getD (now starts) l 0 + room (lanePins (now lanes) l kept sources weights) ≤ 15) ⌝ }
-    ensures { λ r. ⌜ ((l : ℕ) → l < 8 → getD r l 0 ≡ pinsWord unitsInOne table (getD (now (starts .entry)) l 0) (lanePins (now (lanes .entry)) l kept sources weights) flip) ⌝ }
+    requires { ⌜ ((i : ℕ) → i < kept → Readable (now lanes) (getD s i 0)) ⌝ }
+    requires { ⌜ ((l : ℕ) → l < 8 → getD (now starts) l 0 + room (lanePins (now lanes) l kept s a) ≤ 15) ⌝ }
+    ensures { λ r. ⌜ ((l : ℕ) → l < 8 → getD r l 0 ≡ pinsWord unitsInOne table (getD (now (starts .entry)) l 0) (lanePins (now (lanes .entry)) l kept s a) flip) ⌝ }
 {
     match kept {
         0 => lanes_none(table, flip, starts),
-        1 => lanes_one(lanes, table, flip, starts, sources[0], weights[0]),
-        2 => lanes_two(
-            lanes,
-            table,
-            flip,
-            starts,
-            sources[0],
-            weights[0],
-            sources[1],
-            weights[1],
-        ),
+        1 => lanes_one(lanes, table, flip, starts, s[0], a[0]),
+        2 => lanes_two(lanes, table, flip, starts, s[0], a[0], s[1], a[1]),
         3 => lanes_three(
             lanes,
             table,
             flip,
             starts,
-            sources[0],
-            weights[0],
-            sources[1],
-            weights[1],
-            sources[2],
-            weights[2],
+            s[0],
+            a[0],
+            s[1],
+            a[1],
+            s[2],
+            a[2],
         ),
         _ => lanes_four(
             lanes,
             table,
             flip,
             starts,
-            sources[0],
-            weights[0],
-            sources[1],
-            weights[1],
-            sources[2],
-            weights[2],
-            sources[3],
-            weights[3],
+            s[0],
+            a[0],
+            s[1],
+            a[1],
+            s[2],
+            a[2],
+            s[3],
+            a[3],
         ),
     }
 }
@@ -312,16 +303,16 @@ pub fn work_row(lanes: &mut [u32; 8288], area: &[u32], inputs: usize, base: usiz
     ensures { λ _. ⌜ length (now (lanes .exit)) ≡ 8288 ⌝ }
 {
     let pins = split_lanes(area, lanes, inputs, base, area[base] as usize);
-    let sources = pins.sources;
-    let weights = pins.weights;
+    let s = pins.sources;
+    let a = pins.weights;
     let starts = pins.starts;
     let words = lane_words(
         lanes,
         area[base + 1],
         area[base + 6],
         pins.kept,
-        sources,
-        weights,
+        s,
+        a,
         &starts,
     );
     store_row(lanes, source, words);

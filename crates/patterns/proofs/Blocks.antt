@@ -20,13 +20,6 @@ use Rattle.patterns.specs.Blocks.{lanePattern, OutputLanes, laneProduct}
 use Rattle.patterns.proofs.Walk.{weighted-fits, total-fits}
 use Rattle.patterns.proofs.Lanes.{word-fits, product-at, lane-pattern-fits, lane-pattern-small}
 
--- a sum over fewer terms is not larger
-sum-below : (F : ℕ → ℕ) (j k : ℕ) → j ≤ k → sumBelow j F ≤ sumBelow k F
-sum-below F j zero l = let none : j ≡ 0 = omega arith in omega (arith, ap (λ (i : ℕ). sumBelow i F) none)
-sum-below F j (suc k) l =
-    by-cases (decLe j k) (λ less. omega (arith, sum-below F j k less))
-    (λ no. let all : j ≡ suc k = omega arith in omega (arith, ap (λ (i : ℕ). sumBelow i F) all))
-
 -- terms that are zero from j on add nothing
 sum-zeros : (F : ℕ → ℕ) (j k : ℕ) → ((q : ℕ) → j ≤ q → q < j + k → F q ≡ 0) → sumBelow (j + k) F ≡ sumBelow j F
 sum-zeros F j zero h = let none : j + 0 ≡ j = omega arith in ap (λ (i : ℕ). sumBelow i F) none
@@ -53,11 +46,6 @@ weighted-past ws weights k l =
     let n = length weights in
     let all : k ≡ n + (k - n) = omega arith in
     ap (weightedTo ws weights) all ∙ weighted-zeros ws weights n (k - n) (λ q from to. List·getD-eq-default weights 0 from)
-
--- over fewer patterns it is not larger
-pub weighted-below : (ws weights : List ℕ) (j k : ℕ) → j ≤ k → weightedTo ws weights j ≤ weightedTo ws weights k
-unfolding weightedTo
-weighted-below ws weights j k l = sum-below (λ q. getD weights q 0 * reliabilityAt ws q) j k l
 
 -- the weighted sum fits, over any number of patterns
 pub weighted-limit : (ws weights : List ℕ) (k : ℕ) → Sound ws → Fitting (inputs ws) weights → weightedTo ws weights k ≤ unitsInOne * (4096 * largestWeight)

@@ -46,10 +46,6 @@ pub sum-scaled : (F G : ℕ → ℕ) (u k : ℕ) → ((q : ℕ) → q < k → F 
 sum-scaled F G u zero h = omega arith
 sum-scaled F G u (suc k) h = omega (arith, sum-scaled F G u k (λ q l. h q (omega arith)), h k (omega arith))
 
-pub sum-same : (F G : ℕ → ℕ) (k : ℕ) → ((q : ℕ) → q < k → F q ≡ G q) → sumBelow k F ≡ sumBelow k G
-sum-same F G zero h = refl
-sum-same F G (suc k) h = ap₂ _+_ (sum-same F G k (λ q l. h q (omega arith))) (h k (omega arith))
-
 -- weights that are not all zero have a sum
 pub some-weight : (weights : List ℕ) → allZero weights ≡ false → 0 < sumBelow (length weights) (λ q. getD weights q 0)
 some-weight weights e =

@@ -17,7 +17,7 @@ fn index(word: u32) -> usize
 }
 
 // A source's word, 2 × failure + right value.
-pub fn source_word(area: &[u32], source: usize) -> u32
+fn source_word(area: &[u32], source: usize) -> u32
     requires { ⌜ Sound (now area) ⌝ }
     requires { ⌜ source < inputs (now area) + gates (now area) ⌝ }
     ensures { λ r. ⌜ r ≡ sourceWord (now (area .entry)) source ⌝ }
@@ -31,11 +31,11 @@ pub fn source_word(area: &[u32], source: usize) -> u32
 }
 
 // A gate's pins as the fold takes them. An input never fails, so a pin that reads one only moves the index; the others have words and weights.
-pub struct Pins {
-    pub start: u32,
-    pub kept: usize,
-    pub words: [u32; 4],
-    pub weights: [u32; 4],
+struct Pins {
+    start: u32,
+    kept: usize,
+    words: [u32; 4],
+    weights: [u32; 4],
 }
 
 // The first `count` pins of the gate whose words start at `base`.
@@ -75,7 +75,7 @@ fn split_pins(area: &[u32], base: usize, count: usize) -> Pins
 }
 
 // A gate's figure word by the rule, from the words held.
-pub fn gate_figure(area: &[u32], gate: usize) -> u32
+fn gate_figure(area: &[u32], gate: usize) -> u32
     requires { ⌜ Sound (now area) ⌝ }
     requires { ⌜ gate < gates (now area) ⌝ }
     ensures { λ r. ⌜ r ≡ gateFigure (now (area .entry)) gate ⌝ }
@@ -95,7 +95,7 @@ pub fn gate_figure(area: &[u32], gate: usize) -> u32
 }
 
 // The gate worked out again.
-pub fn work_gate(area: &mut [u32], gate: usize)
+fn work_gate(area: &mut [u32], gate: usize)
     requires { ⌜ Sound (now area) ⌝ }
     requires { ⌜ gate < gates (now area) ⌝ }
     ensures { λ _. ⌜ now (area .exit) ≡ workGate (now (area .entry)) gate ⌝ }
@@ -105,7 +105,7 @@ pub fn work_gate(area: &mut [u32], gate: usize)
 }
 
 // Every gate worked out, in order.
-pub fn work_gates(area: &mut [u32])
+fn work_gates(area: &mut [u32])
     requires { ⌜ Sound (now area) ⌝ }
     ensures { λ _. ⌜ now (area .exit) ≡ workGates (now (area .entry)) 0 (gates (now (area .entry))) ⌝ }
 {
@@ -118,7 +118,7 @@ pub fn work_gates(area: &mut [u32])
 }
 
 // The reliability by the rule, from the words held: the product over the outputs in order.
-pub fn reliability_now(area: &[u32]) -> u32
+fn reliability_now(area: &[u32]) -> u32
     requires { ⌜ Sound (now area) ⌝ }
     ensures { λ r. ⌜ r ≡ reliabilityNow (now (area .entry)) ⌝ }
 {
@@ -134,7 +134,7 @@ pub fn reliability_now(area: &[u32]) -> u32
     reliability as u32
 }
 
-pub fn work_reliability(area: &mut [u32])
+fn work_reliability(area: &mut [u32])
     requires { ⌜ Sound (now area) ⌝ }
     ensures { λ _. ⌜ now (area .exit) ≡ workReliability (now (area .entry)) ⌝ }
 {
