@@ -1,27 +1,17 @@
--- A gate's pins gone through one by one: an input's moves the index that the others start from, a gate's is kept. Assumes nothing.
+-- A gate's pins gone through one by one: one that cannot fail moves the index that the others start from, any other is kept. Assumes nothing.
 use Prim.Native.Nat.{ℕ, _+_, _*_, _/_, _%_, _^_, _≤_, _<_, _-_}
-use mathlib.Core.Bool.{Bool, cond}
 use mathlib.Core.List.{List, [], _∷_, _++_, map}
 use mathlib.Core.Path.{_≡_, refl, sym, ap, subst, _∙_}
 use native.Mathlib.Omega.{arith}
 use borrow.Author.Count.{below-none, below-more}
-use borrow.Author.Tests.{lt-ltb}
 use lib.ListN.{length, getD, take, drop, set, length-set, length-take, length-drop, length-map}
 use lib.Seq.{getD-set-same, getD-set-other}
 use Rattle.rounding.specs.Rounding.{unitsInOne}
 use Rattle.figure.specs.Figure.{failureOf}
 use Rattle.figure.specs.Steps.{Pin, numbered, firstPins, room, Split}
 use Rattle.figure.proofs.Split.{split-first, split-room, split-without, split-kept, split-last, first-more}
-use Rattle.words.specs.Words.{inputs, gates, pattern, figure, sourceWord}
-use Rattle.words.specs.Rules.{Sound}
-use Rattle.words.proofs.Sound.{source-word-fits}
+use Rattle.words.specs.Words.{sourceWord}
 use Rattle.words.proofs.Loops.{part-at}
-
--- an input never fails
-input-sure : (ws : List ℕ) (s : ℕ) → s < inputs ws → failureOf (sourceWord ws s) ≡ 0
-input-sure ws s l =
-    let bit : pattern ws / 2 ^ s % 2 / 2 ≡ 0 = omega arith in
-    ap (λ (b : Bool). failureOf (cond b (pattern ws / 2 ^ s % 2) (figure ws (s - inputs ws)))) (lt-ltb s (inputs ws) l) ∙ bit
 
 -- the sources of a gate's pins
 abbrev pub sourcesOf : List ℕ → ℕ → ℕ → List ℕ
@@ -73,9 +63,9 @@ module _ (ws : List ℕ) (base count : ℕ) (few-pins : count ≤ 4) (long : bas
       omega (arith, p .split .fits),
     )
 
-    pub pinned-without : source < inputs ws → Pinned ws base count (start + word % 2 * weight) kept words weights (weight * 2) (i + 1)
-    pinned-without input =
-        let sure : failureOf (sourceWord ws (getD sources i 0)) ≡ 0 = ap failureOf (here ∙ read) ∙ input-sure ws source input in
+    pub pinned-without : word < 2 → Pinned ws base count (start + word % 2 * weight) kept words weights (weight * 2) (i + 1)
+    pinned-without small =
+        let sure : failureOf (sourceWord ws (getD sources i 0)) ≡ 0 = omega (arith, here) in
         record {
           few = omega (arith, p .few);
           word-room = p .word-room;

@@ -30,7 +30,7 @@ fn source_word(area: &[u32], source: usize) -> u32
     }
 }
 
-// A gate's pins as the fold takes them. An input never fails, so a pin that reads one only moves the index; the others have words and weights.
+// A gate's pins as the fold takes them. A pin whose source cannot fail only moves the index that the others start from; those have words and weights.
 struct Pins {
     start: u32,
     kept: usize,
@@ -46,7 +46,6 @@ fn split_pins(area: &[u32], base: usize, count: usize) -> Pins
     ensures { λ r. ⌜ (r .kept ≤ 4) × ((i : ℕ) → i < r .kept → getD (r .words) i 0 / 2 ≤ unitsInOne) ⌝ }
     ensures { λ r. ⌜ Split (map (sourceWord (now (area .entry))) (take count (drop (base + 2) (now (area .entry))))) (r .start) (firstPins (r .kept) (r .words) (r .weights)) ⌝ }
 {
-    let n = index(area[0]);
     let mut start = 0;
     let mut kept = 0;
     let mut words = [0u32; 4];
@@ -54,9 +53,8 @@ fn split_pins(area: &[u32], base: usize, count: usize) -> Pins
     let mut weight = 1;
     let mut i = 0;
     while i < count {
-        let source = index(area[base + 2 + i]);
-        let word = source_word(area, source);
-        if source < n {
+        let word = source_word(area, index(area[base + 2 + i]));
+        if word < 2 {
             start += word % 2 * weight;
         } else {
             words[kept] = word;

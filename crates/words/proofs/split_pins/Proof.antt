@@ -1,4 +1,4 @@
--- `words::split_pins` meets its contract: each turn leaves out an input's pin or keeps a gate's. Assumes nothing.
+-- `words::split_pins` meets its contract: each turn leaves out a pin that cannot fail or keeps it. Assumes nothing.
 use Prim.Native.Nat.{ℕ, _+_, _-_, _*_, _/_, _%_, _≤_, _<_}
 use mathlib.Core.List.{List}
 use mathlib.Core.Logic.{⊎-elim}
@@ -15,21 +15,15 @@ use Rattle.words.proofs.split_pins.Statement.{statement}
 use Rattle.words.proofs.split_pins.Tie as tie
 
 abbrev Inv-loop : tie.InvT-loop
-Inv-loop area base count n start₀ kept₀ words₀ weights₀ weight₀ i₀ start kept words weights weight i =
+Inv-loop area base count start₀ kept₀ words₀ weights₀ weight₀ i₀ start kept words weights weight i =
     (i ≤ count) × Pinned area base count start kept words weights weight i
 
 abbrev μ-loop : tie.MeasureT-loop
-μ-loop area base count n start₀ kept₀ words₀ weights₀ weight₀ i₀ start kept words weights weight i = count - i
-
-shared-slice-read-index : tie.Need-shared-slice-read-index Inv-loop μ-loop
-shared-slice-read-index c = search needs
-
-index-requires : tie.Need-index-requires Inv-loop μ-loop
-index-requires c κs = search needs
+μ-loop area base count start₀ kept₀ words₀ weights₀ weight₀ i₀ start kept words weights weight i = count - i
 
 loop-holds : tie.Need-loop-holds Inv-loop μ-loop
 loop-holds c =
-    let s = c .before .before .before in
+    let s = c .before in
     (omega arith, pinned-first (s .args .area .now) (s .args .base) (s .args .count) (s .pre .1 .0 .0) (s .pre .1 .0 .1) _ _ refl refl)
 
 add-index : tie.Need-add-index Inv-loop μ-loop
@@ -41,26 +35,26 @@ add-index-2 c = search needs
 mul-index : tie.Need-mul-index Inv-loop μ-loop
 mul-index c = search needs
 
-shared-slice-read-index-2 : tie.Need-shared-slice-read-index-2 Inv-loop μ-loop
-shared-slice-read-index-2 c = search needs
+shared-slice-read-index : tie.Need-shared-slice-read-index Inv-loop μ-loop
+shared-slice-read-index c = search needs
 
-index-requires-2 : tie.Need-index-requires-2 Inv-loop μ-loop
-index-requires-2 c κs = search needs
+index-requires : tie.Need-index-requires Inv-loop μ-loop
+index-requires c κs = search needs
 
 -- the source that a turn reads
-below : (c : tie.After-index2 Inv-loop μ-loop)
-    → c .index2 .result < inputs (c .before .before .before .before .before .before .before .args .area .now) + gates (c .before .before .before .before .before .before .before .args .area .now)
+below : (c : tie.After-index Inv-loop μ-loop)
+    → c .index .result < inputs (c .before .before .before .before .before .args .area .now) + gates (c .before .before .before .before .before .args .area .now)
 below c =
-    let s = c .before .before .before .before .before .before .before in
-    rw (c .index2 .ensures) (s .pre .1 .1 (c .before .before .before .loop .i) (omega arith))
+    let s = c .before .before .before .before .before in
+    rw (c .index .ensures) (s .pre .1 .1 (c .before .before .before .loop .i) (omega arith))
 
 source-word-requires : tie.Need-source-word-requires Inv-loop μ-loop
-source-word-requires c κs = (c .before .before .before .before .before .before .before .pre .0, below c)
+source-word-requires c κs = (c .before .before .before .before .before .pre .0, below c)
 
 -- a turn's pin: the index and the weight are small, and what is left after it
 module _ (c : tie.After-source-word Inv-loop μ-loop) where
   abbrev s : tie.Start Inv-loop μ-loop
-  s = c .before .before .before .before .before .before .before .before
+  s = c .before .before .before .before .before .before
 
   abbrev a : tie.At-loop Inv-loop μ-loop
   a = c .before .before .before .before
@@ -68,24 +62,24 @@ module _ (c : tie.After-source-word Inv-loop μ-loop) where
   small : (a .loop .weight ≤ 15) × (a .loop .start ≤ 15)
   small =
       pinned-small (s .args .area .now) (s .args .base) (s .args .count) (s .pre .1 .0 .0) (s .pre .1 .0 .1) (a .loop .start) (a .loop .kept) (a .loop .words)
-      (a .loop .weights) (a .loop .weight) (a .loop .i) (c .before .index2 .result) (c .source-word .result) (omega arith) (a .loop .inv .1)
-      (c .before .index2 .ensures) (c .source-word .ensures)
+      (a .loop .weights) (a .loop .weight) (a .loop .i) (c .before .index .result) (c .source-word .result) (omega arith) (a .loop .inv .1)
+      (c .before .index .ensures) (c .source-word .ensures)
 
-  without : c .before .index2 .result < inputs (s .args .area .now)
+  without : c .source-word .result < 2
       → Pinned (s .args .area .now) (s .args .base) (s .args .count) (a .loop .start + c .source-word .result % 2 * a .loop .weight) (a .loop .kept) (a .loop .words)
       (a .loop .weights) (a .loop .weight * 2) (a .loop .i + 1)
   without =
       pinned-without (s .args .area .now) (s .args .base) (s .args .count) (s .pre .1 .0 .0) (s .pre .1 .0 .1) (a .loop .start) (a .loop .kept) (a .loop .words)
-      (a .loop .weights) (a .loop .weight) (a .loop .i) (c .before .index2 .result) (c .source-word .result) (omega arith) (a .loop .inv .1)
-      (c .before .index2 .ensures) (c .source-word .ensures)
+      (a .loop .weights) (a .loop .weight) (a .loop .i) (c .before .index .result) (c .source-word .result) (omega arith) (a .loop .inv .1)
+      (c .before .index .ensures) (c .source-word .ensures)
 
   kept : Pinned (s .args .area .now) (s .args .base) (s .args .count) (a .loop .start) (a .loop .kept + 1) (set (a .loop .words) (a .loop .kept) (c .source-word .result))
       (set (a .loop .weights) (a .loop .kept) (a .loop .weight)) (a .loop .weight * 2) (a .loop .i + 1)
   kept =
       pinned-kept (s .args .area .now) (s .args .base) (s .args .count) (s .pre .1 .0 .0) (s .pre .1 .0 .1) (a .loop .start) (a .loop .kept) (a .loop .words)
-      (a .loop .weights) (a .loop .weight) (a .loop .i) (c .before .index2 .result) (c .source-word .result) (omega arith) (a .loop .inv .1)
-      (c .before .index2 .ensures) (c .source-word .ensures)
-      (omega (arith, c .source-word .ensures, source-word-fits (s .args .area .now) (s .pre .0) (c .before .index2 .result) (below (c .before))))
+      (a .loop .weights) (a .loop .weight) (a .loop .i) (c .before .index .result) (c .source-word .result) (omega arith) (a .loop .inv .1)
+      (c .before .index .ensures) (c .source-word .ensures)
+      (omega (arith, c .source-word .ensures, source-word-fits (s .args .area .now) (s .pre .0) (c .before .index .result) (below (c .before))))
 
 mul-start : tie.Need-mul-start Inv-loop μ-loop
 mul-start c = omega (arith, added (c .before .source-word .result) (a (c .before) .loop .weight), small (c .before) .0)
@@ -121,14 +115,14 @@ loop-again : tie.Need-loop-again Inv-loop μ-loop
 loop-again c = (
   omega arith,
   ⊎-elim
-      (λ w. rw (w .1, w .2, w .3, w .4) (without (c .before) (omega (arith, w .0 .taken, c .before .before .before .before .before .before .index .ensures))))
+      (λ w. rw (w .1, w .2, w .3, w .4) (without (c .before) (w .0 .taken)))
       (λ w. rw (w .1, w .2, w .3, w .4) (kept (c .before)))
       (c .if1 .came),
 )
 
 returns : tie.Need-returns Inv-loop μ-loop
 returns c =
-    let s = c .before .before .before .before .before in
+    let s = c .before .before .before in
     let l = c .before .loop in (
       (omega (arith, l .inv .1 .few, s .pre .1 .0 .0), l .inv .1 .failures),
       pinned-last (s .args .area .now) (s .args .base) (s .args .count) (s .pre .1 .0 .0) (s .pre .1 .0 .1) (l .start) (l .kept) (l .words) (l .weights) (l .weight)
@@ -141,14 +135,12 @@ split-pins-spec =
     (tie.spec
     Inv-loop
     μ-loop
-    shared-slice-read-index
-    index-requires
     loop-holds
     add-index
     add-index-2
     mul-index
-    shared-slice-read-index-2
-    index-requires-2
+    shared-slice-read-index
+    index-requires
     source-word-requires
     mul-start
     add-start
