@@ -6,6 +6,15 @@ ghost use Rattle.rounding.specs.Rounding.{unitsInOne, roundDiv, blend};
 // U of document 01: the number of units in 1.
 pub const UNITS_IN_ONE: u64 = 1_073_741_824;
 
+// `sum` divided by `count`, to the nearest whole number: the one place where the code of the figures rounds.
+pub fn rounded(sum: u64, count: u64) -> u64
+    requires { ⌜ 0 < count ⌝ }
+    requires { ⌜ 2 * sum + 2 * count < 18_446_744_073_709_551_616 ⌝ }
+    ensures { λ r. ⌜ r ≡ roundDiv sum count ⌝ }
+{
+    (2 * sum + count) / (2 * count)
+}
+
 // The mean of `right` and `wrong`, where `wrong` has the share `failure` of U, to the nearest unit.
 pub fn blended(right: u64, wrong: u64, failure: u64) -> u64
     requires { ⌜ right ≤ unitsInOne ⌝ }
@@ -13,14 +22,8 @@ pub fn blended(right: u64, wrong: u64, failure: u64) -> u64
     requires { ⌜ failure ≤ unitsInOne ⌝ }
     ensures { λ r. ⌜ r ≡ blend unitsInOne right wrong failure ⌝ }
 {
-    (right * (UNITS_IN_ONE - failure) + wrong * failure + UNITS_IN_ONE / 2) / UNITS_IN_ONE
-}
-
-// `sum` divided by `count`, to the nearest whole number.
-pub fn rounded(sum: u64, count: u64) -> u64
-    requires { ⌜ 0 < count ⌝ }
-    requires { ⌜ 2 * sum + 2 * count < 18_446_744_073_709_551_616 ⌝ }
-    ensures { λ r. ⌜ r ≡ roundDiv sum count ⌝ }
-{
-    (2 * sum + count) / (2 * count)
+    rounded(
+        right * (UNITS_IN_ONE - failure) + wrong * failure,
+        UNITS_IN_ONE,
+    )
 }

@@ -1,11 +1,10 @@
--- `rounding::blended` meets its contract: each product is at most U times U, and half of U added before the division is the rounding.
--- Assumes nothing.
-use Prim.Native.Nat.{ℕ, _+_, _-_, _*_, _/_, _≤_}
+-- `rounding::blended` meets its contract: each product is at most U times U, so the division has room. Assumes nothing.
+use Prim.Native.Nat.{ℕ, _+_, _-_, _*_, _≤_}
 use mathlib.Core.Path.{_≡_}
 use native.Mathlib.Nat.{mul-le-mul}
 use native.Mathlib.Omega.{arith}
 use borrow.Author.Needs.{needs}
-use Rattle.rounding.specs.Rounding.{unitsInOne, roundDiv, blend}
+use Rattle.rounding.specs.Rounding.{unitsInOne, blend}
 use Rattle.rounding.proofs.blended.Statement.{statement}
 use Rattle.rounding.proofs.blended.Tie as tie
 
@@ -16,25 +15,24 @@ first c = mul-le-mul {n₂ = unitsInOne} {m₂ = unitsInOne} (c .pre .0) (omega 
 second : (c : tie.Start) → c .args .wrong * c .args .failure ≤ unitsInOne * unitsInOne
 second c = mul-le-mul {n₂ = unitsInOne} {m₂ = unitsInOne} (c .pre .1 .0) (c .pre .1 .1)
 
-sub-result : tie.Need-sub-result
-sub-result c = search needs
+sub-rounded : tie.Need-sub-rounded
+sub-rounded c = search needs
 
-mul-result : tie.Need-mul-result
-mul-result c = omega (arith, first c)
+mul-rounded : tie.Need-mul-rounded
+mul-rounded c = omega (arith, first c)
 
-mul-result-2 : tie.Need-mul-result-2
-mul-result-2 c = omega (arith, second c)
+mul-rounded-2 : tie.Need-mul-rounded-2
+mul-rounded-2 c = omega (arith, second c)
 
-add-result : tie.Need-add-result
-add-result c = omega (arith, first c, second c)
+add-rounded : tie.Need-add-rounded
+add-rounded c = omega (arith, first c, second c)
 
-add-result-2 : tie.Need-add-result-2
-add-result-2 c = omega (arith, first c, second c)
+rounded-requires : tie.Need-rounded-requires
+rounded-requires c κs = (omega arith, omega (arith, first c, second c))
 
 returns : tie.Need-returns
-unfolding blend roundDiv
-returns c = search needs
+unfolding blend
+returns c = c .rounded .ensures
 
 pub blended-spec : {M : Type 1} → statement M
-blended-spec =
-    tie.close (tie.spec sub-result mul-result mul-result-2 add-result add-result-2 returns)
+blended-spec = tie.close (tie.spec sub-rounded mul-rounded mul-rounded-2 add-rounded rounded-requires returns)
