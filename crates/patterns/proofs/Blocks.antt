@@ -1,17 +1,22 @@
 -- The weighted sum over blocks of eight patterns, what a lane adds to it, and where nothing is added. Assumes nothing.
 use Prim.Native.Nat.{ℕ, zero, suc, _+_, _-_, _*_, _/_, _^_, _≤_, _<_}
-use mathlib.Core.List.{List}
+use mathlib.Core.Bool.{true}
+use mathlib.Core.List.{List, [], _∷_}
 use mathlib.Core.Logic.{by-cases}
-use mathlib.Core.Path.{_≡_, sym, ap, _∙_}
+use mathlib.Core.Path.{_≡_, refl, sym, ap, _∙_}
 use native.Mathlib.Nat.{zero-mul}
-use native.Mathlib.Decide.{decLe}
+use native.Mathlib.Decide.{decLe, decLt}
 use native.Mathlib.Omega.{arith}
-use lib.ListN.{length, getD, List·getD-eq-default}
+use lib.Dec.{eqb}
+use lib.ListN.{length, getD, take, drop, List·getD-eq-default}
+use borrow.Author.Tests.{eqb-true}
 use Rattle.rounding.specs.Rounding.{unitsInOne}
 use Rattle.netlist.specs.Average.{sumBelow}
 use Rattle.words.specs.Words.{inputs, outputWords}
-use Rattle.words.specs.Rules.{Sound}
+use Rattle.words.specs.Rules.{allZero, Sound}
 use Rattle.words.proofs.Sound.{output-below}
+use Rattle.words.proofs.Loops.{part-at}
+use Rattle.rules.proofs.Facts.{both}
 use Rattle.calls.specs.Calls.{reliabilityAt}
 use Rattle.patterns.specs.Weights.{largestWeight}
 use Rattle.patterns.specs.Walk.{Fitting, weightedTo}
@@ -62,6 +67,21 @@ weighted-none ws weights first h =
     sym
     (weighted-zeros ws weights first 8
     (λ q from to. let at : q ≡ first + (q - first) = omega arith in ap (λ (i : ℕ). getD weights i 0) at ∙ h (q - first) (omega arith)))
+
+-- the weights of a block that are all zero
+zero-each : (xs : List ℕ) → allZero xs ≡ true → (i : ℕ) → getD xs i 0 ≡ 0
+zero-each [] e i = refl
+zero-each (x ∷ xs) e zero = eqb-true x 0 (both (eqb x 0) (allZero xs) e .0)
+zero-each (x ∷ xs) e (suc i) = zero-each xs (both (eqb x 0) (allZero xs) e .1) i
+
+pub block-empty : (weights : List ℕ) (first end : ℕ) → first ≤ end → end ≤ length weights → (end < length weights → end ≡ first + 8)
+    → allZero (take (end - first) (drop first weights)) ≡ true → (l : ℕ) → l < 8 → getD weights (first + l) 0 ≡ 0
+block-empty weights first end from to whole e l less =
+    by-cases (decLt (first + l) end)
+    (λ inside. sym (part-at weights first (end - first) l (omega arith)) ∙ zero-each (take (end - first) (drop first weights)) e l)
+    (λ no.
+    by-cases (decLt end (length weights)) (λ short. absurd (omega (arith, whole short)))
+    (λ all. List·getD-eq-default weights 0 (omega arith)))
 
 -- one pattern more of a block
 pub block-more : (ws weights : List ℕ) (first l s x : ℕ) → weightedTo ws weights first + s ≡ weightedTo ws weights (first + l)

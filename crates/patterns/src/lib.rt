@@ -1,7 +1,6 @@
 // The walk over all patterns of the call "average", on an area that keeps rule 14, and the test of the weights, refusal 12.
 ghost use mathlib.Core.Path.{_≡_};
 ghost use Prim.Native.Nat.{ℕ, _+_, _/_, _<_, _≤_};
-ghost use mathlib.Core.Bool.{true};
 ghost use lib.ListN.{length, getD};
 ghost use Rattle.netlist.specs.Average.{sumBelow};
 ghost use Rattle.rounding.specs.Rounding.{unitsInOne};
@@ -102,19 +101,12 @@ fn lane_reliability(lanes: &[u32; 8288], area: &[u32], l: usize) -> u64
     reliability
 }
 
-// Whether none of the eight patterns from `first` on has a weight: then nothing need be worked out for them.
-fn no_weight(weights: &[u32], first: usize) -> bool
-    requires { ⌜ first ≤ 4096 ⌝ }
-    ensures { λ r. ⌜ (r ≡ true → (l : ℕ) → l < 8 → getD (now (weights .entry)) (first + l) 0 ≡ 0) ⌝ }
+// Where the block of eight patterns from `first` on ends: the last may be shorter.
+fn block_end(first: usize, patterns: usize) -> usize
+    requires { ⌜ (first ≤ patterns) × (patterns ≤ 4096) ⌝ }
+    ensures { λ r. ⌜ (first ≤ r) × (r ≤ patterns) × (r < patterns → r ≡ first + 8) ⌝ }
 {
-    let mut l = 0;
-    while l < 8 {
-        if first + l < weights.len() && weights[first + l] != 0 {
-            return false;
-        }
-        l += 1;
-    }
-    true
+    if first + 8 < patterns { first + 8 } else { patterns }
 }
 
 // What the eight patterns from `first` on add to the weighted sum.
@@ -171,7 +163,8 @@ fn weighted_block(
     ensures { λ r. ⌜ weightedTo (now (area .entry)) (now (weights .entry)) first + r ≡ weightedTo (now (area .entry)) (now (weights .entry)) (first + 8) ⌝ }
     ensures { λ _. ⌜ length (now (lanes .exit)) ≡ 8288 ⌝ }
 {
-    if no_weight(weights, first) {
+    let end = block_end(first, weights.len());
+    if all_zero(&weights[first..end]) {
         return 0;
     }
     work_block(lanes, area, readers, first);
