@@ -108,11 +108,11 @@ module _ (d : ℕ) (ws kinds chances : List ℕ) (sound : Sound ws) (fresh : Fre
   sources-hold = holds-below (inputs ws + gates ws) (le-refl (inputs ws + gates ws))
 
   products : (s : ℕ) (os : List ℕ) → ((i : ℕ) → i < length os → getD os i 0 < inputs ws + gates ws)
-      → productFrom ws s os ≡ reliabilityFrom unitsInOne (failures unitsInOne d (netOf ws kinds chances) (pattern ws)) s os
+      → productFrom (sourceWord ws) s os ≡ reliabilityFrom unitsInOne (failures unitsInOne d (netOf ws kinds chances) (pattern ws)) s os
   products s [] below = refl
   products s (o ∷ os) below =
       let fs = failures unitsInOne d (netOf ws kinds chances) (pattern ws) in
-      ap (λ (f : ℕ). productFrom ws (outputStep unitsInOne s f) os) (sources-hold o (below 0 (omega arith)) .failure)
+      ap (λ (f : ℕ). productFrom (sourceWord ws) (outputStep unitsInOne s f) os) (sources-hold o (below 0 (omega arith)) .failure)
       ∙ products (outputStep unitsInOne s (getD fs o 0)) os (λ i l. below (suc i) (omega arith))
 
   -- and word 4 is the reliability

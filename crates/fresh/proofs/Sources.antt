@@ -64,20 +64,20 @@ pub gate-figure-earlier : (ws vs : List ℕ) → Sound ws → SameFrame ws vs �
 gate-figure-earlier ws vs sound same j l p h =
     gate-figure-same ws vs same j p (λ i k. h (getD (usedPins ws j) i 0) (used-pin-below ws sound j l i k))
 
-product-same : (ws vs : List ℕ) (s : ℕ) (os : List ℕ) → ((i : ℕ) → i < length os → sourceWord vs (getD os i 0) ≡ sourceWord ws (getD os i 0))
-    → productFrom vs s os ≡ productFrom ws s os
-product-same ws vs s [] h = refl
-product-same ws vs s (o ∷ os) h =
-    ap (λ (w : ℕ). productFrom vs (outputStep unitsInOne s (failureOf w)) os) (h 0 (omega arith))
-    ∙ product-same ws vs (outputStep unitsInOne s (failureOf (sourceWord ws o))) os (λ i l. h (suc i) (omega arith))
+-- outputs whose sources read the same have the same product
+pub product-same : (f h : ℕ → ℕ) (s : ℕ) (os : List ℕ) → ((i : ℕ) → i < length os → f (getD os i 0) ≡ h (getD os i 0)) → productFrom f s os ≡ productFrom h s os
+product-same f h s [] e = refl
+product-same f h s (o ∷ os) e =
+    ap (λ (w : ℕ). productFrom f (outputStep unitsInOne s (failureOf w)) os) (e 0 (omega arith))
+    ∙ product-same f h (outputStep unitsInOne s (failureOf (h o))) os (λ i l. e (suc i) (omega arith))
 
 -- the reliability comes from the words of the outputs' sources
 pub reliability-same : (ws vs : List ℕ) → Sound ws → SameFrame ws vs → ((s : ℕ) → s < inputs ws + gates ws → sourceWord vs s ≡ sourceWord ws s)
     → reliabilityNow vs ≡ reliabilityNow ws
 unfolding reliabilityNow
 reliability-same ws vs sound same h =
-    ap (productFrom vs unitsInOne) (same-output-words ws vs same)
-    ∙ product-same ws vs unitsInOne (outputWords ws) (λ i l. h (getD (outputWords ws) i 0) (output-below ws sound i l))
+    ap (productFrom (sourceWord vs) unitsInOne) (same-output-words ws vs same)
+    ∙ product-same (sourceWord vs) (sourceWord ws) unitsInOne (outputWords ws) (λ i l. h (getD (outputWords ws) i 0) (output-below ws sound i l))
 
 -- working out gate j changes no other source
 pub source-work-gate : (ws : List ℕ) (j s : ℕ) → j < gates ws → s ≢ inputs ws + j → sourceWord (workGate ws j) s ≡ sourceWord ws s

@@ -14,6 +14,7 @@ use Rattle.rounding.specs.Rounding.{unitsInOne}
 use Rattle.netlist.specs.Average.{sumBelow}
 use Rattle.words.specs.Words.{inputs, outputWords}
 use Rattle.words.specs.Rules.{allZero, Sound}
+use Rattle.words.specs.Work.{productFrom}
 use Rattle.words.proofs.Sound.{output-below}
 use Rattle.words.proofs.Loops.{part-at}
 use Rattle.rules.proofs.Facts.{both}
@@ -21,7 +22,7 @@ use Rattle.calls.specs.Calls.{reliabilityAt}
 use Rattle.patterns.specs.Weights.{largestWeight}
 use Rattle.patterns.specs.Walk.{Fitting, weightedTo}
 use Rattle.lanes.specs.Lanes.{laneWord}
-use Rattle.patterns.specs.Blocks.{lanePattern, OutputLanes, laneProduct}
+use Rattle.patterns.specs.Blocks.{lanePattern, OutputLanes}
 use Rattle.patterns.proofs.Walk.{weighted-fits, total-fits}
 use Rattle.patterns.proofs.Lanes.{word-fits, product-at, lane-pattern-fits, lane-pattern-small}
 
@@ -105,7 +106,7 @@ module _ (ws lanes : List ℕ) (first l : ℕ) (sound : Sound ws) (few : l < 8) 
       (word-fits ws (lanePattern ws first l) (getD (outputWords ws) k 0) sound (lane-pattern-fits ws first l) (output-below ws sound k inside))
 
   -- the outputs' product is the reliability under the lane's pattern
-  pub lane-reliability-at : first + l < 2 ^ inputs ws → laneProduct lanes l unitsInOne (outputWords ws) ≡ reliabilityAt ws (first + l)
+  pub lane-reliability-at : first + l < 2 ^ inputs ws → productFrom (laneWord lanes l) unitsInOne (outputWords ws) ≡ reliabilityAt ws (first + l)
   lane-reliability-at small =
       product-at ws lanes (lanePattern ws first l) l sound (lane-pattern-fits ws first l) (λ k inside. there k l inside few)
       ∙ ap (reliabilityAt ws) (lane-pattern-small ws first l small)

@@ -9,7 +9,7 @@ use lib.ListN.{length, getD, set, take, drop, length-take, length-drop}
 use lib.Pow.{pow-pos, field, mod-mod-pow}
 use lib.Seq.{getD-set-same, getD-set-other}
 use Rattle.rounding.specs.Rounding.{unitsInOne}
-use Rattle.figure.specs.Figure.{gateWord, outputStep, failureOf}
+use Rattle.figure.specs.Figure.{gateWord, failureOf}
 use Rattle.netlist.specs.Netlist.{gateAt}
 use Rattle.netlist.specs.Live.{count, output-reads, gate-reads}
 use Rattle.netlist.proofs.Count.{count-at}
@@ -22,11 +22,11 @@ use Rattle.words.proofs.Sound.{sound-store-pattern, sound-work-all, source-word
 use Rattle.words.proofs.Loops.{used-at, part-at}
 use Rattle.live.specs.Net.{netOf}
 use Rattle.live.proofs.Net.{gate-at, gate-count, sound-pins}
-use Rattle.fresh.proofs.Sources.{map-same, source-input, source-gate, source-cases}
+use Rattle.fresh.proofs.Sources.{map-same, source-input, source-gate, source-cases, product-same}
 use Rattle.fresh.proofs.WorkAll.{work-all-fresh}
 use Rattle.calls.specs.Calls.{reliabilityAt}
 use Rattle.lanes.specs.Lanes.{laneWord, InputLanes, RowStored, Readable, laneGate}
-use Rattle.patterns.specs.Blocks.{wordAt, lanePattern, ReadersOf, Block, OutputLanes, laneProduct}
+use Rattle.patterns.specs.Blocks.{wordAt, lanePattern, ReadersOf, Block, OutputLanes}
 
 -- ---- the words afresh for a pattern
 
@@ -75,23 +75,15 @@ word-fits ws q s sound fits l =
           (omega (arith, same-inputs ws after same, same-gates ws after same)),
     )
 
--- lanes that have the words of some outputs have their product
-lane-product-same : (lanes after : List ℕ) (l r : ℕ) (os : List ℕ) → ((k : ℕ) → k < length os → laneWord lanes l (getD os k 0) ≡ sourceWord after (getD os k 0))
-    → laneProduct lanes l r os ≡ productFrom after r os
-lane-product-same lanes after l r [] h = refl
-lane-product-same lanes after l r (o ∷ os) h =
-    ap (λ (w : ℕ). laneProduct lanes l (outputStep unitsInOne r (failureOf w)) os) (h 0 (omega arith))
-    ∙ lane-product-same lanes after l (outputStep unitsInOne r (failureOf (sourceWord after o))) os (λ k s. h (suc k) (omega arith))
-
 -- the outputs' words in a lane make the reliability
 pub product-at : (ws lanes : List ℕ) (q l : ℕ) → Sound ws → q < 2 ^ inputs ws
     → ((k : ℕ) → k < length (outputWords ws) → laneWord lanes l (getD (outputWords ws) k 0) ≡ wordAt ws q (getD (outputWords ws) k 0))
-    → laneProduct lanes l unitsInOne (outputWords ws) ≡ reliabilityAt ws q
+    → productFrom (laneWord lanes l) unitsInOne (outputWords ws) ≡ reliabilityAt ws q
 unfolding wordAt reliabilityAt reliabilityNow
 product-at ws lanes q l sound fits h =
     let after = workAll (set ws 3 q) in
-    lane-product-same lanes after l unitsInOne (outputWords ws) h
-    ∙ ap (productFrom after unitsInOne) (sym (same-output-words ws after (frame-afresh ws q)))
+    product-same (laneWord lanes l) (sourceWord after) unitsInOne (outputWords ws) h
+    ∙ ap (productFrom (sourceWord after) unitsInOne) (sym (same-output-words ws after (frame-afresh ws q)))
     ∙ sym (work-all-fresh (set ws 3 q) (sound-store-pattern ws q sound fits) .product)
 
 -- ---- what live gates and outputs read

@@ -1,10 +1,8 @@
--- The walk in blocks of eight patterns: what the lanes hold of a block, and the reliability in a lane.
+-- The walk in blocks of eight patterns: what the lanes hold of a block.
 use Prim.Native.Nat.{ℕ, _+_, _%_, _^_, _<_}
-use mathlib.Core.List.{List, [], _∷_}
+use mathlib.Core.List.{List, []}
 use mathlib.Core.Path.{_≡_}
 use lib.ListN.{length, getD, set}
-use Rattle.rounding.specs.Rounding.{unitsInOne}
-use Rattle.figure.specs.Figure.{outputStep, failureOf}
 use Rattle.lanes.specs.Lanes.{laneWord}
 use Rattle.netlist.specs.Live.{readers}
 use Rattle.words.specs.Words.{inputs, outputWords, sourceWord}
@@ -34,8 +32,3 @@ abbrev pub OutputLanes : List ℕ → List ℕ → ℕ → Type 0
 OutputLanes ws lanes first =
     (k l : ℕ) → k < length (outputWords ws) → l < 8
     → laneWord lanes l (getD (outputWords ws) k 0) ≡ wordAt ws (lanePattern ws first l) (getD (outputWords ws) k 0)
-
--- the reliability s in lane l after the outputs that are left
-abbrev pub laneProduct : List ℕ → ℕ → ℕ → List ℕ → ℕ
-laneProduct lanes l s [] = s
-laneProduct lanes l s (o ∷ os) = laneProduct lanes l (outputStep unitsInOne s (failureOf (laneWord lanes l o))) os

@@ -7,13 +7,13 @@ ghost use Rattle.rounding.specs.Rounding.{unitsInOne};
 ghost use Rattle.lanes.specs.Lanes.{laneWord};
 ghost use Rattle.words.specs.Words.{inputs, gates, outputWords};
 ghost use Rattle.words.specs.Rules.{allZero, Sound};
-ghost use Rattle.words.specs.Work.{workAll};
+ghost use Rattle.words.specs.Work.{productFrom, workAll};
 ghost use Rattle.image.specs.Judgement.{fine};
 ghost use Rattle.calls.specs.Judged.{weightsJudgement};
 ghost use Rattle.calls.specs.Calls.{averageOf};
 ghost use Rattle.patterns.specs.Weights.{weightsAnswer, FirstHeavy};
 ghost use Rattle.patterns.specs.Walk.{Fitting, weightedTo};
-ghost use Rattle.patterns.specs.Blocks.{ReadersOf, Block, OutputLanes, laneProduct};
+ghost use Rattle.patterns.specs.Blocks.{ReadersOf, Block, OutputLanes};
 
 const LARGEST_WEIGHT: u32 = 1_048_575;
 
@@ -86,7 +86,7 @@ fn lane_reliability(lanes: &[u32; 8288], area: &[u32], l: usize) -> u64
     requires { ⌜ Sound (now area) ⌝ }
     requires { ⌜ l < 8 ⌝ }
     requires { ⌜ ((k : ℕ) → k < length (outputWords (now area)) → laneWord (now lanes) l (getD (outputWords (now area)) k 0) / 2 ≤ unitsInOne) ⌝ }
-    ensures { λ r. ⌜ r ≡ laneProduct (now (lanes .entry)) l unitsInOne (outputWords (now (area .entry))) ⌝ }
+    ensures { λ r. ⌜ r ≡ productFrom (laneWord (now (lanes .entry)) l) unitsInOne (outputWords (now (area .entry))) ⌝ }
     ensures { λ r. ⌜ r ≤ unitsInOne ⌝ }
 {
     let start = 8 + 8 * area[1] as usize;
@@ -106,7 +106,11 @@ fn block_end(first: usize, patterns: usize) -> usize
     requires { ⌜ (first ≤ patterns) × (patterns ≤ 4096) ⌝ }
     ensures { λ r. ⌜ (first ≤ r) × (r ≤ patterns) × (r < patterns → r ≡ first + 8) ⌝ }
 {
-    if first + 8 < patterns { first + 8 } else { patterns }
+    if first + 8 < patterns {
+        first + 8
+    } else {
+        patterns
+    }
 }
 
 // What the eight patterns from `first` on add to the weighted sum.

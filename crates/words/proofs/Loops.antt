@@ -40,9 +40,9 @@ pub output-count : (ws : List ℕ) → Sound ws → length (outputWords ws) ≡ 
 output-count ws s = omega (arith, length-take (outputs ws) (drop (8 + 8 * gates ws) ws), length-drop (8 + 8 * gates ws) ws, s .long)
 
 -- one output more
-pub product-turn : (ws os : List ℕ) (k r next : ℕ) {target : ℕ} → k < length os → next ≡ outputStep unitsInOne r (failureOf (sourceWord ws (getD os k 0)))
-    → productFrom ws r (drop k os) ≡ target → productFrom ws next (drop (k + 1) os) ≡ target
-product-turn ws os k r next l e t = rw (add-one, e) (ap (productFrom ws r) (sym (drop-cons os k 0 l)) ∙ t)
+pub product-turn : (read : ℕ → ℕ) (os : List ℕ) (k r next : ℕ) {target : ℕ} → k < length os → next ≡ outputStep unitsInOne r (failureOf (read (getD os k 0)))
+    → productFrom read r (drop k os) ≡ target → productFrom read next (drop (k + 1) os) ≡ target
+product-turn read os k r next l e t = rw (add-one, e) (ap (productFrom read r) (sym (drop-cons os k 0 l)) ∙ t)
 
 -- one gate more
 pub gates-turn : (ws vs : List ℕ) (j m : ℕ) {target : List ℕ} → j < m → vs ≡ workGate ws j

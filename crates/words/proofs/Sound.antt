@@ -143,7 +143,7 @@ sound-work-marked ws marks j (suc k) sound l =
 
 -- the reliability is at most U
 product-fits : (ws : List ℕ) → Sound ws → (s : ℕ) → s ≤ unitsInOne → (os : List ℕ)
-    → ((i : ℕ) → i < length os → getD os i 0 < inputs ws + gates ws) → productFrom ws s os ≤ unitsInOne
+    → ((i : ℕ) → i < length os → getD os i 0 < inputs ws + gates ws) → productFrom (sourceWord ws) s os ≤ unitsInOne
 product-fits ws sound s l [] h = l
 product-fits ws sound s l (o ∷ os) h =
     product-fits ws sound (outputStep unitsInOne s (failureOf (sourceWord ws o)))

@@ -21,13 +21,13 @@ abbrev pub workGates : List ℕ → ℕ → ℕ → List ℕ
 workGates ws j zero = ws
 workGates ws j (suc k) = workGates (workGate ws j) (suc j) k
 
--- the reliability s after the outputs that are left
-abbrev pub productFrom : List ℕ → ℕ → List ℕ → ℕ
-productFrom ws s [] = s
-productFrom ws s (o ∷ os) = productFrom ws (outputStep unitsInOne s (failureOf (sourceWord ws o))) os
+-- the reliability s after the outputs that are left, where source o has the word `read o`
+abbrev pub productFrom : (ℕ → ℕ) → ℕ → List ℕ → ℕ
+productFrom read s [] = s
+productFrom read s (o ∷ os) = productFrom read (outputStep unitsInOne s (failureOf (read o))) os
 
 unfoldable pub reliabilityNow : List ℕ → ℕ
-reliabilityNow ws = productFrom ws unitsInOne (outputWords ws)
+reliabilityNow ws = productFrom (sourceWord ws) unitsInOne (outputWords ws)
 
 unfoldable pub workReliability : List ℕ → List ℕ
 workReliability ws = set ws 4 (reliabilityNow ws)

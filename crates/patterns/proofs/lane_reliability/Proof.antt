@@ -2,33 +2,26 @@
 use Prim.Native.Nat.{ℕ, _+_, _-_, _*_, _/_, _≤_, _<_}
 use mathlib.Core.List.{List}
 use mathlib.Core.Path.{_≡_, refl, sym, ap, _∙_}
-use native.Mathlib.Numerals.{add-one}
 use native.Mathlib.Omega.{arith}
 use borrow.Author.Needs.{needs}
 use lib.ListN.{length, getD, drop, drop-of-length-le}
-use lib.Seq.{drop-cons}
 use Rattle.rounding.specs.Rounding.{unitsInOne}
 use Rattle.figure.specs.Figure.{outputStep, failureOf}
 use Rattle.figure.proofs.Laws.{output-at-most}
 use Rattle.words.specs.Words.{gates, outputWords}
+use Rattle.words.specs.Work.{productFrom}
 use Rattle.words.proofs.Sound.{output-below}
-use Rattle.words.proofs.Loops.{output-at, output-count}
+use Rattle.words.proofs.Loops.{output-at, output-count, product-turn}
 use Rattle.lanes.specs.Lanes.{laneWord}
-use Rattle.patterns.specs.Blocks.{laneProduct}
 use Rattle.patterns.proofs.lane_reliability.Statement.{statement}
 use Rattle.patterns.proofs.lane_reliability.Tie as tie
 
 abbrev Inv-loop : tie.InvT-loop
 Inv-loop lanes area l start count reliability₀ k₀ reliability k =
-    (k ≤ count) × (reliability ≤ unitsInOne) × (laneProduct lanes l reliability (drop k (outputWords area)) ≡ laneProduct lanes l unitsInOne (outputWords area))
+    (k ≤ count) × (reliability ≤ unitsInOne) × (productFrom (laneWord lanes l) reliability (drop k (outputWords area)) ≡ productFrom (laneWord lanes l) unitsInOne (outputWords area))
 
 abbrev μ-loop : tie.MeasureT-loop
 μ-loop lanes area l start count reliability₀ k₀ reliability k = count - k
-
--- one output more
-turn : (lanes os : List ℕ) (l k r next : ℕ) {target : ℕ} → k < length os → next ≡ outputStep unitsInOne r (failureOf (laneWord lanes l (getD os k 0)))
-    → laneProduct lanes l r (drop k os) ≡ target → laneProduct lanes l next (drop (k + 1) os) ≡ target
-turn lanes os l k r next less e t = rw (add-one, e) (ap (laneProduct lanes l r) (sym (drop-cons os k 0 less)) ∙ t)
 
 -- the output that a turn reads
 here : (c : tie.In-loop Inv-loop μ-loop)
@@ -126,7 +119,7 @@ loop-again c =
     c .output-step .ensures ∙ ap (λ (o : ℕ). outputStep unitsInOne (l .reliability) (failureOf (laneWord lanes (s .args .l) o))) (here i) in (
       omega arith,
       rw (c .output-step .ensures) (output-at-most unitsInOne (omega arith) (l .reliability) _ (l .inv .1) (fits i)),
-      turn lanes (outputWords ws) (s .args .l) (l .k) (l .reliability) (c .output-step .result) (below i) e (l .inv .2),
+      product-turn (laneWord lanes (s .args .l)) (outputWords ws) (l .k) (l .reliability) (c .output-step .result) (below i) e (l .inv .2),
     )
 
 returns : tie.Need-returns Inv-loop μ-loop
@@ -135,7 +128,7 @@ returns c =
     let l = c .before .loop in
     let ws = s .args .area .now in
     let past : length (outputWords ws) ≤ l .k = omega (arith, output-count ws (s .pre .0)) in
-    (sym (ap (laneProduct (s .args .lanes .now) (s .args .l) (l .reliability)) (drop-of-length-le (outputWords ws) past)) ∙ l .inv .2, l .inv .1)
+    (sym (ap (productFrom (laneWord (s .args .lanes .now) (s .args .l)) (l .reliability)) (drop-of-length-le (outputWords ws) past)) ∙ l .inv .2, l .inv .1)
 
 pub lane-reliability-spec : {M : Type 1} → statement M
 lane-reliability-spec =

@@ -36,10 +36,9 @@ all-zero-requires c κs = search needs
 returns : tie.Need-returns
 returns c =
     let s = c .before .before .before .before .before .before in
-    let end = c .before .before .before .block-end in
-    (
+    let end = c .before .before .before .block-end in (
       add-zero _
-      ∙ weighted-none (s .args .area .now) (s .args .weights .now) (s .args .first)
+          ∙ weighted-none (s .args .area .now) (s .args .weights .now) (s .args .first)
           (block-empty (s .args .weights .now) (s .args .first) (end .result) (end .ensures .0) (end .ensures .1) (end .ensures .2) (sym (c .before .all-zero .ensures) ∙ c .if1 .taken)),
       s .pre .1 .1 .1 .1,
     )
@@ -51,8 +50,7 @@ work-block-requires c κs =
 
 block-sum-requires : tie.Need-block-sum-requires
 block-sum-requires c κs =
-    let s = c .before .before .before .before .before .before .before .before .before in
-    (
+    let s = c .before .before .before .before .before .before .before .before .before in (
       s .pre .0,
       (
         s .pre .1 .1 .0,

@@ -16,7 +16,7 @@ use Rattle.words.proofs.reliability_now.Tie as tie
 
 abbrev Inv-loop : tie.InvT-loop
 Inv-loop area start count reliability₀ k₀ reliability k =
-    (k ≤ count) × (reliability ≤ unitsInOne) × (productFrom area reliability (drop k (outputWords area)) ≡ productFrom area unitsInOne (outputWords area))
+    (k ≤ count) × (reliability ≤ unitsInOne) × (productFrom (sourceWord area) reliability (drop k (outputWords area)) ≡ productFrom (sourceWord area) unitsInOne (outputWords area))
 
 abbrev μ-loop : tie.MeasureT-loop
 μ-loop area start count reliability₀ k₀ reliability k = count - k
@@ -104,7 +104,7 @@ loop-again c =
     let ws = s .args .area .now in (
       omega arith,
       rw (c .output-step .ensures) (output-at-most unitsInOne (omega arith) (l .reliability) (c .before .source-word .result / 2) (l .inv .1) (fits (c .before))),
-      product-turn ws (outputWords ws) (l .k) (l .reliability) (c .output-step .result) (below (c .before .before))
+      product-turn (sourceWord ws) (outputWords ws) (l .k) (l .reliability) (c .output-step .result) (below (c .before .before))
           (c .output-step .ensures ∙ ap (λ (o : ℕ). outputStep unitsInOne (l .reliability) (o / 2)) (c .before .source-word .ensures ∙ ap (sourceWord ws) (here (c .before .before))))
           (l .inv .2),
     )
@@ -119,7 +119,7 @@ returns c =
     let s = c .before .before .before .before .before .before .before in
     let ws = s .args .area .now in
     let past : length (outputWords ws) ≤ l .k = omega (arith, output-count ws (s .pre), c .before .before .index2 .ensures) in
-    sym (ap (productFrom ws (l .reliability)) (drop-of-length-le (outputWords ws) past)) ∙ l .inv .2
+    sym (ap (productFrom (sourceWord ws) (l .reliability)) (drop-of-length-le (outputWords ws) past)) ∙ l .inv .2
 
 pub reliability-now-spec : {M : Type 1} → statement M
 reliability-now-spec =
