@@ -8,11 +8,12 @@ use mathlib.Core.List.{List, [], _++_, append-nil}
 use lib.ListN.{take}
 use lib.Seq.{take-at}
 use borrow.Author.Tests.{eq-eqb, ne-eqb, le-leb, lt-leb}
-use Rattle.netlist.specs.Live.{count, liveReads, firstSharedFrom, firstShared, liveGates}
-use Rattle.words.specs.Words.{inputs, gates, outputs, needed}
-use Rattle.live.specs.Net.{netOf}
-use Rattle.live.proofs.Net.{gate-count}
-use Rattle.image.specs.Judgement.{fine, refusal}
+use Rattle.lists.specs.Lists.{count}
+use Rattle.netlist.specs.Live.{liveReads, firstSharedFrom, firstShared, liveGates}
+use Rattle.area.specs.Layout.{inputs, gates, outputs, needed}
+use Rattle.area.specs.Net.{netOf}
+use Rattle.area.proofs.Net.{gate-count}
+use Rattle.refusal.specs.declared.Judgement.the-variants.{Fine, Refused}
 use Rattle.image.specs.Image.{imageGates, imageOutputs}
 use Rattle.image.specs.Refusals.{imageRefusal}
 use Rattle.image.specs.Loading.{imageWords}
@@ -23,15 +24,15 @@ use Rattle.calls.proofs.Loaded.{loaded-gates, loaded-outputs, loaded-net}
 use Rattle.bench.specs.Loaded.{loadedJudgement, loadedWords}
 
 module _ (ws : List ℕ) (size shared : ℕ) (e : shared ≡ firstShared (netOf ws [] [])) where
-  pub shared-refused : (shared ≡ gates ws → ⊥) → loadedJudgement ws size ≡ refusal 9 shared
+  pub shared-refused : (shared ≡ gates ws → ⊥) → loadedJudgement ws size ≡ Refused 9 shared
   unfolding loadedJudgement sharedJudgement
   shared-refused ne = rw (← e, ne-eqb shared (gates ws) ne) refl
 
-  pub short-refused : shared ≡ gates ws → size < needed (gates ws) (outputs ws) → loadedJudgement ws size ≡ refusal 13 0
+  pub short-refused : shared ≡ gates ws → size < needed (gates ws) (outputs ws) → loadedJudgement ws size ≡ Refused 13 0
   unfolding loadedJudgement sharedJudgement
   short-refused s l = rw (← e, eq-eqb shared (gates ws) s, lt-leb (needed (gates ws) (outputs ws)) size l) refl
 
-  pub loaded-fine : shared ≡ gates ws → needed (gates ws) (outputs ws) ≤ size → loadedJudgement ws size ≡ fine
+  pub loaded-fine : shared ≡ gates ws → needed (gates ws) (outputs ws) ≤ size → loadedJudgement ws size ≡ Fine
   unfolding loadedJudgement sharedJudgement
   loaded-fine s l = rw (← e, eq-eqb shared (gates ws) s, le-leb (needed (gates ws) (outputs ws)) size l) refl
 
@@ -65,7 +66,7 @@ module _ (bs tail ws : List ℕ) (e : ws ≡ imageWords bs ++ tail) where
   own-gates : gates (imageWords bs) ≡ imageGates bs
   own-gates = ap gates (sym (append-nil (imageWords bs))) ∙ loaded-gates bs []
 
-  pub open-judged : imageRefusal bs ≡ fine → (size : ℕ) → openJudgement bs size ≡ loadedJudgement ws size
+  pub open-judged : imageRefusal bs ≡ Fine → (size : ℕ) → openJudgement bs size ≡ loadedJudgement ws size
   unfolding openJudgement loadedJudgement sharedJudgement
   open-judged f size = rw (f, same-net, same-gates, same-outputs, own-gates) refl
 
@@ -77,6 +78,6 @@ module _ (bs tail ws : List ℕ) (e : ws ≡ imageWords bs ++ tail) where
   unfolding openWords loadedWords
   open-words area = rw (loaded-front, same-gates, same-outputs) refl
 
-pub open-refused : (bs : List ℕ) (number place size : ℕ) → imageRefusal bs ≡ refusal number place → openJudgement bs size ≡ refusal number place
+pub open-refused : (bs : List ℕ) (number place size : ℕ) → imageRefusal bs ≡ Refused number place → openJudgement bs size ≡ Refused number place
 unfolding openJudgement
 open-refused bs number place size e = rw e refl

@@ -5,7 +5,8 @@ use lib.Ieee.{Float}
 use lib.Ieee.Exact.{HasValue}
 use mathlib.Core.Bool.{false}
 use Rattle.rounding.specs.Rounding.{unitsInOne}
-use Rattle.image.specs.Judgement.{Judgement, fine, refusal}
+use Rattle.refusal.specs.declared.Judgement.{Judgement}
+use Rattle.refusal.specs.declared.Judgement.the-variants.{Fine, Refused}
 use Rattle.bench.specs.declared.Opened.{Opened}
 use Rattle.bench.specs.declared.Opened.the-variants.{Done as OpenDone, Refused as OpenRefused}
 use Rattle.bench.specs.declared.Toggled.{Toggled}
@@ -21,28 +22,28 @@ use Rattle.bench.specs.declared.GateRead.the-variants.{Done as GateDone,
 
 -- the number of live gates
 abbrev pub opened : Judgement → ℕ → Opened
-opened fine live = OpenDone live
-opened (refusal number place) live = OpenRefused number place
+opened Fine live = OpenDone live
+opened (Refused number place) live = OpenRefused number place
 
 abbrev pub toggled : Judgement → Toggled
-toggled fine = ToggleDone
-toggled (refusal number place) = ToggleRefused number place
+toggled Fine = ToggleDone
+toggled (Refused number place) = ToggleRefused number place
 
 abbrev pub flipSet : Judgement → FlipSet
-flipSet fine = SetDone
-flipSet (refusal number place) = SetRefused number place
+flipSet Fine = SetDone
+flipSet (Refused number place) = SetRefused number place
 
 -- the average in units
 abbrev pub averaged : Judgement → ℕ → Averaged
-averaged fine units = AverageDone units
-averaged (refusal number place) units = AverageRefused number place
+averaged Fine units = AverageDone units
+averaged (Refused number place) units = AverageRefused number place
 
 -- right value and failure
 abbrev pub gateRead : Judgement → ℕ → ℕ → GateRead
-gateRead fine right failure = GateDone right failure
-gateRead (refusal number place) right failure = GateRefused number place
+gateRead Fine right failure = GateDone right failure
+gateRead (Refused number place) right failure = GateRefused number place
 
 -- pattern and units, with the f64 whose value is exactly units / U
 abbrev pub NetlistAnswer : Judgement → ℕ → ℕ → NetlistRead → Type 0
-NetlistAnswer fine pattern units r = (x : Float) × (r ≡ NetlistDone pattern units x) × HasValue x false units unitsInOne
-NetlistAnswer (refusal number place) pattern units r = r ≡ NetlistRefused number place
+NetlistAnswer Fine pattern units r = (x : Float) × (r ≡ NetlistDone pattern units x) × HasValue x false units unitsInOne
+NetlistAnswer (Refused number place) pattern units r = r ≡ NetlistRefused number place

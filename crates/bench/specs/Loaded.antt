@@ -3,13 +3,14 @@ use Prim.Native.Nat.{ℕ}
 use mathlib.Core.List.{List, _++_}
 use lib.Dec.{leb}
 use lib.ListN.{take, drop}
-use Rattle.words.specs.Words.{gates, outputs, needed}
-use Rattle.words.specs.Work.{workAll}
-use Rattle.image.specs.Judgement.{Judgement, demand, otherwise}
+use Rattle.area.specs.Layout.{gates, outputs, needed}
+use Rattle.work.specs.Work.{workAll}
+use Rattle.refusal.specs.declared.Judgement.{Judgement}
+use Rattle.refusal.specs.Judgement.{refuseUnless, otherwise}
 use Rattle.calls.specs.Judged.{sharedJudgement}
 
 unfoldable pub loadedJudgement : List ℕ → ℕ → Judgement
-loadedJudgement ws size = otherwise (sharedJudgement ws) (demand (leb (needed (gates ws) (outputs ws)) size) 13 0)
+loadedJudgement ws size = otherwise (sharedJudgement ws) (refuseUnless (leb (needed (gates ws) (outputs ws)) size) 13 0)
 
 unfoldable pub loadedWords : List ℕ → List ℕ → List ℕ
 loadedWords ws area = workAll (take (needed (gates ws) (outputs ws)) ws ++ drop (needed (gates ws) (outputs ws)) area)

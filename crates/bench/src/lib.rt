@@ -4,17 +4,18 @@ ghost use Prim.Native.Nat.{ℕ, _/_, _%_, _≤_};
 ghost use mathlib.Core.List.{List, [], _++_};
 ghost use lib.ListN.{length, take, drop};
 ghost use Rattle.netlist.specs.Live.{liveGates};
-ghost use Rattle.live.specs.Net.{netOf};
-ghost use Rattle.words.specs.Words.{gates, outputs, needed, pattern, reliabilityWord, figure};
-ghost use Rattle.words.specs.Rules.{Sound, areaRefusal};
-ghost use Rattle.words.specs.Work.{workAll, toggleWords, setWords};
-ghost use Rattle.calls.specs.Judged.{openJudgement, areaJudgement, toggleJudgement, setJudgement, gateJudgement, averageJudgement};
+ghost use Rattle.area.specs.Net.{netOf};
+ghost use Rattle.area.specs.Layout.{gates, outputs, needed, pattern, reliabilityWord, figure};
+ghost use Rattle.area.specs.Rules.{Sound, areaRefusal};
+ghost use Rattle.work.specs.Work.{workAll, toggleWords, setWords};
+ghost use Rattle.calls.specs.Judged.{openJudgement, toggleJudgement, setJudgement, gateJudgement, averageJudgement};
+ghost use Rattle.area.specs.Rules.{areaJudgement};
 ghost use Rattle.calls.specs.Calls.{leftBy, openWords, openLive, flipUnits, averageOf};
 ghost use Rattle.bench.specs.Loaded.{loadedJudgement, loadedWords};
 ghost use Rattle.bench.specs.Answers.{opened, toggled, flipSet, gateRead, averaged, NetlistAnswer};
 use chance::FlipUnits;
 use image::Loaded;
-use patterns::WeightsJudged;
+use average::WeightsJudged;
 use rules::Judged;
 
 // The answers: done with its result, or refused with number and place.
@@ -100,7 +101,7 @@ fn open_loaded(area: &mut [u32], words: &[u32]) -> Opened
         return Opened::Refused(13, 0);
     }
     copy_words(area, words, needed);
-    words::work_all(area);
+    work::work_all(area);
     Opened::Done(live::live_gates(&readers, n, g))
 }
 
@@ -122,14 +123,14 @@ pub fn toggle_input(area: &mut [u32], input: u32) -> Toggled
     ensures { λ r. ⌜ r ≡ toggled (toggleJudgement (now (area .entry)) input) ⌝ }
     ensures { λ _. ⌜ now (area .exit) ≡ leftBy (toggleJudgement (now (area .entry)) input) (toggleWords (now (area .entry)) input) (now (area .entry)) ⌝ }
 {
-    let refusal = area_refusal(area);
-    if refusal != 0 {
-        return Toggled::Refused(refusal, 0);
+    let Refused = area_refusal(area);
+    if Refused != 0 {
+        return Toggled::Refused(Refused, 0);
     }
     if area[0] <= input {
         return Toggled::Refused(10, input);
     }
-    words::toggle(area, input as usize);
+    work::toggle(area, input as usize);
     Toggled::Done
 }
 
@@ -138,9 +139,9 @@ pub fn set_flip(area: &mut [u32], gate: u32, kind: u8, field: [u8; 8]) -> FlipSe
     ensures { λ r. ⌜ r ≡ flipSet (setJudgement (now (area .entry)) gate kind field) ⌝ }
     ensures { λ _. ⌜ now (area .exit) ≡ leftBy (setJudgement (now (area .entry)) gate kind field) (setWords (now (area .entry)) gate (flipUnits kind field)) (now (area .entry)) ⌝ }
 {
-    let refusal = area_refusal(area);
-    if refusal != 0 {
-        return FlipSet::Refused(refusal, 0);
+    let Refused = area_refusal(area);
+    if Refused != 0 {
+        return FlipSet::Refused(Refused, 0);
     }
     if area[1] <= gate {
         return FlipSet::Refused(10, gate);
@@ -148,7 +149,7 @@ pub fn set_flip(area: &mut [u32], gate: u32, kind: u8, field: [u8; 8]) -> FlipSe
     let read = chance::read_units(kind, field);
     match read {
         FlipUnits::Units(units) => {
-            words::set_units(area, gate as usize, units);
+            work::set_units(area, gate as usize, units);
             FlipSet::Done
         }
         FlipUnits::Refused => FlipSet::Refused(11, gate),
@@ -159,9 +160,9 @@ pub fn set_flip(area: &mut [u32], gate: u32, kind: u8, field: [u8; 8]) -> FlipSe
 pub fn read_netlist(area: &[u32]) -> NetlistRead
     ensures { λ r. ⌜ NetlistAnswer (areaJudgement (now (area .entry))) (pattern (now (area .entry))) (reliabilityWord (now (area .entry))) r ⌝ }
 {
-    let refusal = area_refusal(area);
-    if refusal != 0 {
-        return NetlistRead::Refused(refusal, 0);
+    let Refused = area_refusal(area);
+    if Refused != 0 {
+        return NetlistRead::Refused(Refused, 0);
     }
     let units = area[4];
     NetlistRead::Done {
@@ -175,9 +176,9 @@ pub fn read_netlist(area: &[u32]) -> NetlistRead
 pub fn read_gate(area: &[u32], gate: u32) -> GateRead
     ensures { λ r. ⌜ r ≡ gateRead (gateJudgement (now (area .entry)) gate) (figure (now (area .entry)) gate % 2) (figure (now (area .entry)) gate / 2) ⌝ }
 {
-    let refusal = area_refusal(area);
-    if refusal != 0 {
-        return GateRead::Refused(refusal, 0);
+    let Refused = area_refusal(area);
+    if Refused != 0 {
+        return GateRead::Refused(Refused, 0);
     }
     if area[1] <= gate {
         return GateRead::Refused(10, gate);
@@ -194,13 +195,13 @@ pub fn average(area: &mut [u32], weights: &[u32]) -> Averaged
     ensures { λ r. ⌜ r ≡ averaged (averageJudgement (now (area .entry)) (now (weights .entry))) (averageOf (now (area .entry)) (now (weights .entry))) ⌝ }
     ensures { λ _. ⌜ now (area .exit) ≡ leftBy (averageJudgement (now (area .entry)) (now (weights .entry))) (workAll (now (area .entry))) (now (area .entry)) ⌝ }
 {
-    let refusal = area_refusal(area);
-    if refusal != 0 {
-        return Averaged::Refused(refusal, 0);
+    let Refused = area_refusal(area);
+    if Refused != 0 {
+        return Averaged::Refused(Refused, 0);
     }
-    let judged = patterns::judge_weights(index(area[0]), weights);
+    let judged = average::judge_weights(index(area[0]), weights);
     match judged {
         WeightsJudged::Refused(place) => Averaged::Refused(12, place),
-        WeightsJudged::Fine => Averaged::Done(patterns::average(area, weights)),
+        WeightsJudged::Fine => Averaged::Done(average::average(area, weights)),
     }
 }

@@ -8,7 +8,8 @@ use lib.Ieee.{Float}
 use mathlib.Core.Bool.{false}
 use lib.Ieee.Exact.{HasValue}
 use Rattle.rounding.specs.Rounding.{unitsInOne}
-use Rattle.image.specs.Judgement.{Judgement, fine, refusal}
+use Rattle.refusal.specs.declared.Judgement.{Judgement}
+use Rattle.refusal.specs.declared.Judgement.the-variants.{Fine, Refused}
 use Rattle.bench.specs.Answers.{opened, toggled, flipSet, gateRead, averaged, NetlistAnswer}
 use Rattle.bench.specs.declared.Opened.the-variants.{Done as OpenDone, Refused as OpenRefused}
 use Rattle.bench.specs.declared.Toggled.the-variants.{Done as ToggleDone, Refused as ToggleRefused}
@@ -19,39 +20,39 @@ use Rattle.bench.specs.declared.Averaged.the-variants.{Done as AverageDone, Ref
 use Rattle.bench.specs.declared.GateRead.the-variants.{Done as GateDone, Refused as GateRefused}
 
 -- each law: what the answer done tells, then what a refused one tells
-pub toggle-told : (j : Judgement) → (toggled j ≡ ToggleDone → j ≡ fine) × ((a p : ℕ) → toggled j ≡ ToggleRefused a p → j ≡ refusal a p)
-toggle-told fine = (λ e. refl, λ a p e. cc)
-toggle-told (refusal b q) = (λ e. cc, λ a p e. cc)
+pub toggle-told : (j : Judgement) → (toggled j ≡ ToggleDone → j ≡ Fine) × ((a p : ℕ) → toggled j ≡ ToggleRefused a p → j ≡ Refused a p)
+toggle-told Fine = (λ e. refl, λ a p e. cc)
+toggle-told (Refused b q) = (λ e. cc, λ a p e. cc)
 
-pub set-told : (j : Judgement) → (flipSet j ≡ SetDone → j ≡ fine) × ((a p : ℕ) → flipSet j ≡ SetRefused a p → j ≡ refusal a p)
-set-told fine = (λ e. refl, λ a p e. cc)
-set-told (refusal b q) = (λ e. cc, λ a p e. cc)
+pub set-told : (j : Judgement) → (flipSet j ≡ SetDone → j ≡ Fine) × ((a p : ℕ) → flipSet j ≡ SetRefused a p → j ≡ Refused a p)
+set-told Fine = (λ e. refl, λ a p e. cc)
+set-told (Refused b q) = (λ e. cc, λ a p e. cc)
 
 pub open-told : (j : Judgement) (v : ℕ)
-    → ((n : ℕ) → opened j v ≡ OpenDone n → (j ≡ fine) × (n ≡ v)) × ((a p : ℕ) → opened j v ≡ OpenRefused a p → j ≡ refusal a p)
-open-told fine v = (λ n e. (refl, cc), λ a p e. cc)
-open-told (refusal b q) v = (λ n e. (cc, cc), λ a p e. cc)
+    → ((n : ℕ) → opened j v ≡ OpenDone n → (j ≡ Fine) × (n ≡ v)) × ((a p : ℕ) → opened j v ≡ OpenRefused a p → j ≡ Refused a p)
+open-told Fine v = (λ n e. (refl, cc), λ a p e. cc)
+open-told (Refused b q) v = (λ n e. (cc, cc), λ a p e. cc)
 
 pub average-told : (j : Judgement) (v : ℕ)
-    → ((n : ℕ) → averaged j v ≡ AverageDone n → (j ≡ fine) × (n ≡ v)) × ((a p : ℕ) → averaged j v ≡ AverageRefused a p → j ≡ refusal a p)
-average-told fine v = (λ n e. (refl, cc), λ a p e. cc)
-average-told (refusal b q) v = (λ n e. (cc, cc), λ a p e. cc)
+    → ((n : ℕ) → averaged j v ≡ AverageDone n → (j ≡ Fine) × (n ≡ v)) × ((a p : ℕ) → averaged j v ≡ AverageRefused a p → j ≡ Refused a p)
+average-told Fine v = (λ n e. (refl, cc), λ a p e. cc)
+average-told (Refused b q) v = (λ n e. (cc, cc), λ a p e. cc)
 
 pub gate-told : (j : Judgement) (v w : ℕ)
-    → ((m n : ℕ) → gateRead j v w ≡ GateDone m n → (j ≡ fine) × (m ≡ v) × (n ≡ w))
-    × ((a p : ℕ) → gateRead j v w ≡ GateRefused a p → j ≡ refusal a p)
-gate-told fine v w = (λ m n e. (refl, cc, cc), λ a p e. cc)
-gate-told (refusal b q) v w = (λ m n e. (cc, cc, cc), λ a p e. cc)
+    → ((m n : ℕ) → gateRead j v w ≡ GateDone m n → (j ≡ Fine) × (m ≡ v) × (n ≡ w))
+    × ((a p : ℕ) → gateRead j v w ≡ GateRefused a p → j ≡ Refused a p)
+gate-told Fine v w = (λ m n e. (refl, cc, cc), λ a p e. cc)
+gate-told (Refused b q) v w = (λ m n e. (cc, cc, cc), λ a p e. cc)
 
 pub netlist-told : (j : Judgement) (v w : ℕ) (r : NetlistRead) → NetlistAnswer j v w r
-    → ((m n : ℕ) (x : Float) → r ≡ NetlistDone m n x → (j ≡ fine) × (m ≡ v) × (n ≡ w) × HasValue x false w unitsInOne)
-    × ((a p : ℕ) → r ≡ NetlistRefused a p → j ≡ refusal a p)
-netlist-told fine v w r e =
+    → ((m n : ℕ) (x : Float) → r ≡ NetlistDone m n x → (j ≡ Fine) × (m ≡ v) × (n ≡ w) × HasValue x false w unitsInOne)
+    × ((a p : ℕ) → r ≡ NetlistRefused a p → j ≡ Refused a p)
+netlist-told Fine v w r e =
     let s = e .1 in (
       λ m n x f. let q : x ≡ e .0 = cc in (refl, cc, cc, rw q (e .2)),
       λ a p f. cc,
     )
-netlist-told (refusal b q) v w r e = (λ m n x f. let z : _≡_ {A = ℕ} 0 1 = cc in absurd (omega arith), λ a p f. cc)
+netlist-told (Refused b q) v w r e = (λ m n x f. let z : _≡_ {A = ℕ} 0 1 = cc in absurd (omega arith), λ a p f. cc)
 
 -- the bytes that the code takes from the number are the field's
 pub bytes-are : (x b0 b1 b2 b3 b4 b5 b6 b7 : ℕ)

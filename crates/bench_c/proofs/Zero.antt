@@ -8,27 +8,31 @@ use lib.Dec.{eqb, ltb, leb}
 use lib.ListN.{length, getD}
 use Rattle.chance.specs.Flip.{flipAccepted}
 use Rattle.netlist.specs.Live.{firstShared}
-use Rattle.live.specs.Net.{netOf}
-use Rattle.words.specs.Words.{inputs, gates, needed}
-use Rattle.words.specs.Rules.{areaRefusal, allZero, gateShape, usedBelow, countsInRange}
-use Rattle.image.specs.Judgement.{Judgement, fine, refusal, demand, otherwise, lowest}
+use Rattle.area.specs.Net.{netOf}
+use Rattle.area.specs.Layout.{inputs, gates, needed}
+use Rattle.area.specs.Rules.{areaRefusal, gateShape, usedBelow, countsInRange}
+use Rattle.lists.specs.Lists.{allZero}
+use Rattle.refusal.specs.declared.Judgement.{Judgement}
+use Rattle.refusal.specs.declared.Judgement.the-variants.{Fine, Refused}
+use Rattle.refusal.specs.Judgement.{refuseUnless, otherwise, lowest}
 use Rattle.image.specs.Image.{trailerAt, imageInputs, imageGates, imageOutputs, imageFormat, imageBack, imageTotal, middle, recordCount, recordKind, recordTable, recordPins, recordField, outputAt}
 use Rattle.image.specs.Loading.{imageWords}
 use Rattle.image.specs.Refusals.{lengthRight, backRight, trailerRefusal, gateRefusal, outputRefusal, middleRefusal, imageRefusal}
-use Rattle.calls.specs.Judged.{areaJudgement, weightsJudgement, sharedJudgement, openJudgement, toggleJudgement, setJudgement, gateJudgement, averageJudgement}
+use Rattle.area.specs.Rules.{areaJudgement}
+use Rattle.calls.specs.Judged.{weightsJudgement, sharedJudgement, openJudgement, toggleJudgement, setJudgement, gateJudgement, averageJudgement}
 use Rattle.calls.specs.Calls.{Call, open-image, toggle-input, set-flip, read-netlist, read-gate, take-average, judgement}
 use Rattle.bench_c.specs.Codes.{code}
 
 record Tells (j : Judgement) : Type 0 where
-  pub tells : code j ≡ 0 → j ≡ fine
+  pub tells : code j ≡ 0 → j ≡ Fine
 
-of-demand : (b : Bool) (a p : ℕ) → Tells (demand b (suc a) p)
+of-demand : (b : Bool) (a p : ℕ) → Tells (refuseUnless b (suc a) p)
 of-demand true a p = record { tells = λ e. refl }
 of-demand false a p = record { tells = λ e. absurd (omega (arith, e)) }
 
 both : (v w : Judgement) → Tells v → Tells w → Tells (otherwise v w)
-both fine w s t = t
-both (refusal a p) w s t = s
+both Fine w s t = t
+both (Refused a p) w s t = s
 
 of-lowest : (f : ℕ → Judgement) → ((j : ℕ) → Tells (f j)) → (k : ℕ) → Tells (lowest f k)
 of-lowest f t zero = record { tells = λ e. refl }
@@ -38,7 +42,7 @@ of-area : (ws : List ℕ) → Tells (areaJudgement ws)
 unfolding areaJudgement
 of-area ws = go (areaRefusal ws)
   where
-    go : (r : ℕ) → Tells (demand (eqb r 0) r 0)
+    go : (r : ℕ) → Tells (refuseUnless (eqb r 0) r 0)
     go zero = record { tells = λ e. refl }
     go (suc r) = of-demand (eqb (suc r) 0) r 0
 
@@ -70,7 +74,7 @@ of-weights : (n : ℕ) (weights : List ℕ) → Tells (weightsJudgement n weight
 unfolding weightsJudgement
 of-weights n weights =
     both _ _ (of-demand (eqb (length weights) (2 ^ n)) 11 0)
-    (both _ _ (of-lowest (λ q. demand (leb (getD weights q 0) 1_048_575) 12 q) (λ q. of-demand (leb (getD weights q 0) 1_048_575) 11 q) (length weights))
+    (both _ _ (of-lowest (λ q. refuseUnless (leb (getD weights q 0) 1_048_575) 12 q) (λ q. of-demand (leb (getD weights q 0) 1_048_575) 11 q) (length weights))
     (of-demand (not (allZero weights)) 11 0))
 
 of-call : (ws : List ℕ) (call : Call) → Tells (judgement ws call)
@@ -83,5 +87,5 @@ of-call ws (read-gate g) = both _ _ (of-area ws) (of-demand (ltb g (gates ws)) 9
 of-call ws (take-average weights) = both _ _ (of-area ws) (of-weights (inputs ws) weights)
 
 -- of every call on every area
-pub zero-is-done : (ws : List ℕ) (call : Call) → code (judgement ws call) ≡ 0 → judgement ws call ≡ fine
+pub zero-is-done : (ws : List ℕ) (call : Call) → code (judgement ws call) ≡ 0 → judgement ws call ≡ Fine
 zero-is-done ws call = of-call ws call .tells

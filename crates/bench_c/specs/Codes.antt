@@ -6,7 +6,8 @@ use mathlib.Core.List.{List, [], _∷_}
 use lib.Ieee.{Float}
 use lib.Ieee.Exact.{HasValue}
 use Rattle.rounding.specs.Rounding.{unitsInOne}
-use Rattle.image.specs.Judgement.{Judgement, fine, refusal}
+use Rattle.refusal.specs.declared.Judgement.{Judgement}
+use Rattle.refusal.specs.declared.Judgement.the-variants.{Fine, Refused}
 
 -- a refusal: its number in the high 32 bits, its place in the low ones
 abbrev pub refusalCode : ℕ → ℕ → ℕ
@@ -14,18 +15,18 @@ refusalCode number place = number * 4_294_967_296 + place
 
 -- 0 where the work was done, else the refusal
 abbrev pub code : Judgement → ℕ
-code fine = 0
-code (refusal number place) = refusalCode number place
+code Fine = 0
+code (Refused number place) = refusalCode number place
 
 -- the result, or what the out-parameter held where the call is refused
 abbrev pub outBy : Judgement → ℕ → ℕ → ℕ
-outBy fine result stood = result
-outBy (refusal number place) result stood = stood
+outBy Fine result stood = result
+outBy (Refused number place) result stood = stood
 
 -- a float whose value is exactly units / U, or the one that the out-parameter held
 abbrev pub FloatBy : Judgement → ℕ → Float → Float → Type 0
-FloatBy fine units stood left = HasValue left false units unitsInOne
-FloatBy (refusal number place) units stood left = left ≡ stood
+FloatBy Fine units stood left = HasValue left false units unitsInOne
+FloatBy (Refused number place) units stood left = left ≡ stood
 
 -- the eight bytes of a flip's field, which C passes as one little-endian number
 unfoldable pub fieldBytes : ℕ → List ℕ

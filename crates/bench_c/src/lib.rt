@@ -2,9 +2,10 @@
 ghost use mathlib.Core.Path.{_≡_};
 ghost use Prim.Native.Nat.{_/_, _%_};
 ghost use lib.ListN.{length};
-ghost use Rattle.words.specs.Words.{pattern as patternWord, reliabilityWord, figure};
-ghost use Rattle.words.specs.Work.{workAll, toggleWords, setWords};
-ghost use Rattle.calls.specs.Judged.{openJudgement, areaJudgement, toggleJudgement, setJudgement, gateJudgement, averageJudgement};
+ghost use Rattle.area.specs.Layout.{pattern as patternWord, reliabilityWord, figure};
+ghost use Rattle.work.specs.Work.{workAll, toggleWords, setWords};
+ghost use Rattle.calls.specs.Judged.{openJudgement, toggleJudgement, setJudgement, gateJudgement, averageJudgement};
+ghost use Rattle.area.specs.Rules.{areaJudgement};
 ghost use Rattle.calls.specs.Calls.{leftBy, openWords, openLive, flipUnits, averageOf};
 ghost use Rattle.bench_c.specs.Codes.{refusalCode, code, outBy, fieldBytes, FloatBy};
 use bench::Averaged;

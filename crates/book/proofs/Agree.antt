@@ -12,10 +12,10 @@ use Rattle.netlist.specs.WellFormed.{WellFormed}
 use Rattle.netlist.specs.Figures.{reliability}
 use Rattle.netlist.specs.Live.{SingleReaders}
 use Rattle.bound.proofs.Average.{reliability-bound}
-use Rattle.words.specs.Words.{inputs, gates, pattern, reliabilityWord}
-use Rattle.words.specs.Rules.{Sound}
-use Rattle.live.specs.Net.{netOf}
-use Rattle.live.proofs.Net.{sound-net, gate-count}
+use Rattle.area.specs.Layout.{inputs, gates, pattern, reliabilityWord}
+use Rattle.area.specs.Rules.{Sound}
+use Rattle.area.specs.Net.{netOf}
+use Rattle.area.proofs.Net.{sound-net, gate-count}
 use Rattle.fresh.specs.Fresh.{Fresh, Converted}
 use Rattle.fresh.proofs.Bridge.{reliability-holds}
 use Rattle.book.specs.Book.{Book}

@@ -15,25 +15,27 @@ use Rattle.rounding.specs.Rounding.{unitsInOne, toUnits, roundDiv}
 use Rattle.chance.specs.Number.{chanceScale}
 use Rattle.netlist.specs.Netlist.{Netlist}
 use Rattle.netlist.specs.Figures.{reliability}
-use Rattle.netlist.specs.Average.{sumBelow, totalWeight, averageUnits}
+use Rattle.lists.specs.Lists.{sumBelow}
+use Rattle.netlist.specs.Average.{totalWeight, averageUnits}
 use Rattle.netlist.proofs.Live.{sum-same}
 use Rattle.bound.proofs.Average.{average-bound}
-use Rattle.words.specs.Words.{inputs, gates, pattern, flip}
-use Rattle.words.specs.Rules.{allZero}
-use Rattle.words.specs.Work.{workAll}
-use Rattle.words.proofs.Frame.{same-gates, same-trans, same-store-pattern, same-work-all, work-all-other}
-use Rattle.words.proofs.Sound.{sound-store-pattern, sound-work-all}
+use Rattle.area.specs.Layout.{inputs, gates, patternIndex, pattern, flipIndex, flip}
+use Rattle.lists.specs.Lists.{allZero}
+use Rattle.work.specs.Work.{workAll}
+use Rattle.work.proofs.Frame.{same-gates, same-trans, same-store-pattern, same-work-all, work-all-other}
+use Rattle.work.proofs.Sound.{sound-store-pattern, sound-work-all}
 use Rattle.rules.proofs.Facts.{zero-passes}
 use Rattle.fresh.proofs.WorkAll.{work-all-fresh}
 use Rattle.fresh.proofs.Bridge.{reliability-holds}
 use Rattle.fresh.proofs.Calls.{frame-net}
-use Rattle.image.specs.Judgement.{fine, demand, lowest}
+use Rattle.refusal.specs.declared.Judgement.the-variants.{Fine}
+use Rattle.refusal.specs.Judgement.{refuseUnless, lowest}
 use Rattle.calls.specs.Judged.{weightsJudgement}
 use Rattle.calls.specs.Calls.{reliabilityAt, averageOf}
 use Rattle.book.specs.Book.{Book}
 use Rattle.book.specs.Statement.{AverageWithin}
 use Rattle.book.proofs.Agree.{Agree, chance-scale-positive, same-input-count, well-formed}
-use Rattle.image.proofs.Judged.{demand-fine, otherwise-fine}
+use Rattle.refusal.proofs.Laws.{unless-fine, otherwise-fine}
 
 -- weights that are not all zero have a sum above 0
 zero-terms : (k : ℕ) (F : ℕ → ℕ) → sumBelow k F ≡ 0 → (j : ℕ) → j < k → F j ≡ 0
@@ -55,13 +57,13 @@ no-zero-sum weights some =
     (λ pos. pos)
     (eq-zero-or-pos (sumBelow (length weights) (λ q. getD weights q 0)))
 
-pub total-positive : (net : Netlist) (weights : List ℕ) → weightsJudgement (net .inputs) weights ≡ fine → 0 < totalWeight net weights
+pub total-positive : (net : Netlist) (weights : List ℕ) → weightsJudgement (net .inputs) weights ≡ Fine → 0 < totalWeight net weights
 unfolding weightsJudgement totalWeight
 total-positive net weights e =
-    let both = otherwise-fine (demand (eqb (length weights) (2 ^ net .inputs)) 12 0) _ e in
-    let long : length weights ≡ 2 ^ net .inputs = eqb-true _ _ (demand-fine _ 12 0 (both .0)) in
-    let later = otherwise-fine (lowest (λ q. demand (leb (getD weights q 0) 1_048_575) 12 q) (length weights)) _ (both .1) in
-    let some : allZero weights ≡ false = not-true _ (demand-fine _ 12 0 (later .1)) in
+    let both = otherwise-fine (refuseUnless (eqb (length weights) (2 ^ net .inputs)) 12 0) _ e in
+    let long : length weights ≡ 2 ^ net .inputs = eqb-true _ _ (unless-fine _ 12 0 (both .0)) in
+    let later = otherwise-fine (lowest (λ q. refuseUnless (leb (getD weights q 0) 1_048_575) 12 q) (length weights)) _ (both .1) in
+    let some : allZero weights ≡ false = not-true _ (unless-fine _ 12 0 (later .1)) in
     subst (λ (k : ℕ). 0 < sumBelow k (λ q. getD weights q 0)) long (no-zero-sum weights some)
 
 module _ (ws : List ℕ) (b : Book) (agree : Agree ws b) where
@@ -71,17 +73,17 @@ module _ (ws : List ℕ) (b : Book) (agree : Agree ws b) where
   reliability-at q l =
       let kinds = agree .kinds in
       let chances = agree .chances in
-      let stored = set ws 3 q in
+      let stored = set ws patternIndex q in
       let after = workAll stored in
       let sound = sound-store-pattern ws q (agree .sound) l in
       let same = same-trans ws stored after (same-store-pattern ws q) (same-work-all stored) in
       let kept : pattern after ≡ q
       = work-all-other stored 3 (λ e. omega arith) (λ j from to e. omega arith)
-      ∙ getD-set-same ws 3 q 0 (omega (arith, agree .sound .long)) in
+      ∙ getD-set-same ws patternIndex q 0 (omega (arith, agree .sound .long)) in
       let flips : (j : ℕ) → j < gates after → flip after j ≡ toUnits unitsInOne chanceScale (getD chances j 0)
       = λ j k.
-      work-all-other stored (8 + 8 * j + 6) (λ e. omega arith) (λ i from to e. omega arith)
-      ∙ getD-set-other ws 3 (8 + 8 * j + 6) q 0 (λ e. omega arith)
+      work-all-other stored (flipIndex j) (λ e. omega arith) (λ i from to e. omega arith)
+      ∙ getD-set-other ws patternIndex (flipIndex j) q 0 (λ e. omega arith)
       ∙ agree .converted .flips j (omega (arith, same-gates ws after same)) in
       reliability-holds chanceScale after kinds chances (sound-work-all stored sound) (work-all-fresh stored sound) (record { flips = flips })
       ∙ ap₂ (reliability unitsInOne chanceScale) (frame-net ws after kinds chances same ∙ agree .held) kept
@@ -96,7 +98,7 @@ module _ (ws : List ℕ) (b : Book) (agree : Agree ws b) where
       ∙ ap (λ (k : ℕ). sumBelow (2 ^ k) (λ q. getD weights q 0 * reliability unitsInOne chanceScale (b .net) q)) n)
       (ap (λ (k : ℕ). sumBelow (2 ^ k) (λ q. getD weights q 0)) n)
 
-  pub average-within : (weights : List ℕ) → weightsJudgement (b .net .inputs) weights ≡ fine → AverageWithin (averageOf ws weights) weights b
+  pub average-within : (weights : List ℕ) → weightsJudgement (b .net .inputs) weights ≡ Fine → AverageWithin (averageOf ws weights) weights b
   average-within weights e =
       subst (λ (units : ℕ). AverageWithin units weights b) (sym (average-is weights))
       (average-bound unitsInOne chanceScale (omega arith) chance-scale-positive (b .net) (well-formed ws b agree) (agree .single) weights

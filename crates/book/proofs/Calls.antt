@@ -14,21 +14,22 @@ use Rattle.chance.specs.Flip.{flipAccepted, flipChance}
 use Rattle.chance.proofs.Laws.{flip-chance-at-most, flip-units-at-most}
 use Rattle.netlist.specs.Netlist.{Netlist}
 use Rattle.netlist.specs.Live.{SingleReaders}
-use Rattle.words.specs.Words.{inputs, gates}
-use Rattle.words.specs.Work.{invertBit, toggleWords, setWords}
-use Rattle.words.proofs.Frame.{same-gates, same-toggle, same-set}
-use Rattle.words.proofs.Sound.{sound-toggle, sound-set}
-use Rattle.live.specs.Net.{netOf}
-use Rattle.live.proofs.Net.{same-single-readers}
+use Rattle.area.specs.Layout.{inputs, gates}
+use Rattle.work.specs.Work.{invertBit, toggleWords, setWords}
+use Rattle.work.proofs.Frame.{same-gates, same-toggle, same-set}
+use Rattle.work.proofs.Sound.{sound-toggle, sound-set}
+use Rattle.area.specs.Net.{netOf}
+use Rattle.area.proofs.Net.{same-single-readers}
 use Rattle.fresh.proofs.Calls.{toggle-net, toggle-pattern, toggle-fresh, toggle-converted, set-net, set-pattern, set-fresh, set-converted}
 use Rattle.fresh.proofs.Unique.{fresh-fixed}
-use Rattle.image.specs.Judgement.{otherwise}
-use Rattle.image.proofs.Judged.{demand-fine, otherwise-fine}
+use Rattle.refusal.specs.Judgement.{otherwise}
+use Rattle.refusal.proofs.Laws.{unless-fine, otherwise-fine}
 use Rattle.calls.specs.Judged.{named, flipJudgement, weightsJudgement, toggleJudgement, setJudgement, gateJudgement, averageJudgement}
 use Rattle.calls.specs.Calls.{open-image, toggle-input, set-flip, read-netlist, read-gate, take-average, flipUnits}
 use Rattle.book.specs.Book.{Book, withFlip, entered}
 use Rattle.book.proofs.Agree.{Agree, same-input-count, same-gate-count}
-use Rattle.book.proofs.Judged.{area-fine, area-passes, named-below, never-fine, never-demand, never-otherwise, never-open, never-weights}
+use Rattle.book.proofs.Judged.{area-fine, area-passes, named-below, never-unless, never-open, never-weights}
+use Rattle.refusal.proofs.Laws.{never-fine, never-otherwise}
 use Rattle.book.proofs.Shown.{Shown}
 use Rattle.book.proofs.Flip.{flip-net}
 use Rattle.book.proofs.Average.{average-within}
@@ -67,7 +68,7 @@ unfolding toggleJudgement
 shown-toggle i =
     record {
       judged = λ ws b agree. area-passes ws (named i (inputs ws)) (agree .sound) ∙ ap (named i) (same-input-count ws b agree);
-      never = λ b size. never-demand 14 (ltb i (b .net .inputs)) 10 i (λ e. omega arith);
+      never = λ b size. never-unless 14 (ltb i (b .net .inputs)) 10 i (λ e. omega arith);
       agrees = λ ws b agree e. toggled i ws b agree (omega (arith, named-below i (b .net .inputs) e, same-input-count ws b agree));
       answers = λ ws b agree e. tt;
     }
@@ -124,14 +125,14 @@ shown-set g kind field =
       never =
           λ b size.
           never-otherwise 14 (named g (length (b .net .gates))) (flipJudgement g kind field)
-          (never-demand 14 (ltb g (length (b .net .gates))) 10 g (λ e. omega arith))
-          (never-demand 14 (flipAccepted kind field) 11 g (λ e. omega arith));
+          (never-unless 14 (ltb g (length (b .net .gates))) 10 g (λ e. omega arith))
+          (never-unless 14 (flipAccepted kind field) 11 g (λ e. omega arith));
       agrees =
           λ ws b agree e.
           let both = otherwise-fine (named g (length (b .net .gates))) (flipJudgement g kind field) e in
           flip-set g kind field ws b agree
           (omega (arith, named-below g (length (b .net .gates)) (both .0), same-gate-count ws b agree))
-          (demand-fine (flipAccepted kind field) 11 g (both .1));
+          (unless-fine (flipAccepted kind field) 11 g (both .1));
       answers = λ ws b agree e. tt;
     }
 
@@ -151,7 +152,7 @@ unfolding gateJudgement
 shown-read-gate g =
     record {
       judged = λ ws b agree. area-passes ws (named g (gates ws)) (agree .sound) ∙ ap (named g) (same-gate-count ws b agree);
-      never = λ b size. never-demand 14 (ltb g (length (b .net .gates))) 10 g (λ e. omega arith);
+      never = λ b size. never-unless 14 (ltb g (length (b .net .gates))) 10 g (λ e. omega arith);
       agrees = λ ws b agree e. agree;
       answers = λ ws b agree e. tt;
     }

@@ -9,8 +9,9 @@ use Rattle.chance.specs.Number.{chanceScale, wholeChance, fromZeroToOne}
 use Rattle.chance.specs.Flip.{flipOf, inRange, flipAccepted, chanceOf, flipChance}
 use Rattle.netlist.specs.Live.{liveReads, firstShared}
 use Rattle.netlist.specs.Sheets.{chanceHalf, printed}
-use Rattle.words.specs.Rules.{gateShape, usedBelow, countsInRange}
-use Rattle.image.specs.Judgement.{Judgement, fine, refusal}
+use Rattle.area.specs.Rules.{gateShape, usedBelow, countsInRange}
+use Rattle.refusal.specs.declared.Judgement.{Judgement}
+use Rattle.refusal.specs.declared.Judgement.the-variants.{Fine, Refused}
 use Rattle.image.specs.Image.{middle}
 use Rattle.image.specs.Refusals.{lengthRight, backRight, trailerRefusal, gateRefusal, outputRefusal, middleRefusal, imageRefusal}
 use Rattle.image.specs.Loading.{recordChance, middleWords, imageWords}
@@ -21,7 +22,7 @@ use Rattle.book.specs.Book.{Book, imageNet, imageBook, withFlip, bookJud
 use Rattle.book.specs.Statement.{Kept}
 use Rattle.book.proofs.List.{demand3}
 
-pub not-refused : imageRefusal printedImage ≡ fine
+pub not-refused : imageRefusal printedImage ≡ Fine
 unfolding
     imageRefusal trailerRefusal lengthRight countsInRange backRight middleRefusal middle gateRefusal outputRefusal gateShape usedBelow
     flipAccepted inRange fromZeroToOne ofBits
@@ -32,11 +33,11 @@ unfolding imageNet middle recordChance flipChance flipOf chanceOf wholeChance ch
 book-net = refl
 
 -- 8 + 8 × 3 + 1 words are enough, one fewer is 13
-pub accepted : openJudgement printedImage 33 ≡ fine
+pub accepted : openJudgement printedImage 33 ≡ Fine
 unfolding openJudgement sharedJudgement firstShared liveReads imageWords middleWords middle
 accepted = rw not-refused refl
 
-pub too-short : openJudgement printedImage 32 ≡ refusal 13 0
+pub too-short : openJudgement printedImage 32 ≡ Refused 13 0
 unfolding openJudgement sharedJudgement firstShared liveReads imageWords middleWords middle
 too-short = rw not-refused refl
 
@@ -60,16 +61,16 @@ judgements b size [] = []
 judgements b size (call ∷ more) = bookJudgement b size call ∷ judgements (bookStep b size call) size more
 
 pub said : judgements (imageBook printedImage) 33 calls
-    ≡ fine
-    ∷ refusal 10 2
-    ∷ fine
-    ∷ refusal 11 1
-    ∷ refusal 10 3
-    ∷ refusal 12 0
-    ∷ refusal 12 0
-    ∷ fine
-    ∷ refusal 1 0
-    ∷ fine
+    ≡ Fine
+    ∷ Refused 10 2
+    ∷ Fine
+    ∷ Refused 11 1
+    ∷ Refused 10 3
+    ∷ Refused 12 0
+    ∷ Refused 12 0
+    ∷ Fine
+    ∷ Refused 1 0
+    ∷ Fine
     ∷ []
 unfolding
     imageNet middle withFlip flipAccepted inRange fromZeroToOne ofBits weightsJudgement openJudgement imageRefusal trailerRefusal lengthRight

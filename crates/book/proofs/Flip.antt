@@ -8,9 +8,9 @@ use native.Mathlib.Omega.{arith}
 use lib.ListN.{length, getD, set, length-set}
 use lib.Seq.{ext-getD, getD-set-same, getD-set-other}
 use Rattle.netlist.specs.Netlist.{Gate, noGate, gateAt}
-use Rattle.words.specs.Words.{inputs, gates, outputWords}
-use Rattle.live.specs.Net.{gateOf, netOf}
-use Rattle.live.proofs.Net.{gate-count, gate-at}
+use Rattle.area.specs.Layout.{inputs, gates, outputWords}
+use Rattle.area.specs.Net.{gateOf, netOf}
+use Rattle.area.proofs.Net.{gate-count, gate-at}
 use Rattle.book.specs.Book.{reflipped, withFlip}
 
 module _ (ws kinds chances : List ℕ) (g kind chance : ℕ) (small : g < gates ws) (kind-each : gates ws ≤ length kinds) (chance-each : gates ws ≤ length chances) where

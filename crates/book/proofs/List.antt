@@ -3,7 +3,8 @@ use Prim.Native.Nat.{ℕ}
 use mathlib.Core.List.{List, [], _∷_}
 use mathlib.Core.Path.{_≡_, refl, sym, subst, _∙_}
 use lib.ListN.{length}
-use Rattle.image.specs.Judgement.{Judgement, fine, refusal}
+use Rattle.refusal.specs.declared.Judgement.{Judgement}
+use Rattle.refusal.specs.declared.Judgement.the-variants.{Fine, Refused}
 use Rattle.calls.specs.Calls.{Call, open-image, toggle-input, set-flip, read-netlist, read-gate, take-average, openWords, work, left, leftBy}
 use Rattle.book.specs.Book.{Book, imageBook, bookJudgement, entered, unlessRefused, bookStep}
 use Rattle.book.specs.Statement.{CallKept, Kept, Demand3}
@@ -39,8 +40,8 @@ module _ (ws : List ℕ) (b : Book) (call : Call) (agree : Agree ws b) where
       (go (bookJudgement b (length ws) call) refl)
     where
       go : (v : Judgement) → bookJudgement b (length ws) call ≡ v → Agree (leftBy v (work ws call) ws) (unlessRefused v (entered b call) b)
-      go fine e = shown call .agrees ws b agree e
-      go (refusal number place) e = agree
+      go Fine e = shown call .agrees ws b agree e
+      go (Refused number place) e = agree
 
 pub list-kept : (ws : List ℕ) (b : Book) (calls : List Call) → Agree ws b → Kept ws b calls
 list-kept ws b [] agree = within-bound ws b agree

@@ -7,17 +7,17 @@ use borrow.Author.Tests.{eqb-true}
 use lib.ListN.{length, drop}
 use Rattle.netlist.specs.Live.{liveGates, firstShared, SingleReaders}
 use Rattle.netlist.proofs.Shared.{none-single}
-use Rattle.words.specs.Words.{inputs, gates, outputs, pattern, pinCount, table, pins, needed}
-use Rattle.words.specs.Work.{workAll}
-use Rattle.words.proofs.Frame.{same-gates, same-work-all, work-all-other}
-use Rattle.words.proofs.Sound.{sound-work-all}
-use Rattle.live.specs.Net.{gateOf, gatesFrom, netOf}
-use Rattle.live.proofs.Net.{gate-count, same-live-gates, same-single-readers}
-use Rattle.image.specs.Judgement.{fine}
+use Rattle.area.specs.Layout.{inputs, gates, outputs, pattern, gateIndex, pinCount, table, pins, flipIndex, needed}
+use Rattle.work.specs.Work.{workAll}
+use Rattle.work.proofs.Frame.{same-gates, same-work-all, work-all-other}
+use Rattle.work.proofs.Sound.{sound-work-all}
+use Rattle.area.specs.Net.{gateOf, gatesFrom, netOf}
+use Rattle.area.proofs.Net.{gate-count, same-live-gates, same-single-readers}
+use Rattle.refusal.specs.declared.Judgement.the-variants.{Fine}
 use Rattle.image.specs.Image.{imageInputs, imageGates, imageOutputs, middle, recordCount, recordTable, recordPins}
 use Rattle.image.specs.Refusals.{imageRefusal}
 use Rattle.image.specs.Loading.{middleWords, imageWords, imageKinds, imageChances}
-use Rattle.image.proofs.Judged.{demand-fine, otherwise-fine}
+use Rattle.refusal.proofs.Laws.{unless-fine, otherwise-fine}
 use Rattle.image.proofs.Sound.{word-at, pins-at, gate-stands, outputs-stand, loaded-sound, length-kinds, length-chances, kind-at, chance-at, chances-fit, flips-at}
 use Rattle.calls.specs.Judged.{sharedJudgement, openJudgement}
 use Rattle.calls.specs.Calls.{openWords, openLive}
@@ -33,8 +33,8 @@ module _ (bs rest : List ℕ) where
       let m = middle bs in
       let d = gate-stands bs rest j l in
       let n = imageInputs bs in
-      let count : pinCount ws j ≡ recordCount m j = word-at ws m (d .0) n j (d .1) (8 + 8 * j) 0 (omega arith) in
-      let bits : table ws j ≡ recordTable m j = word-at ws m (d .0) n j (d .1) (8 + 8 * j + 1) 1 refl in
+      let count : pinCount ws j ≡ recordCount m j = word-at ws m (d .0) n j (d .1) (gateIndex j) 0 (omega arith) in
+      let bits : table ws j ≡ recordTable m j = word-at ws m (d .0) n j (d .1) (gateIndex j + 1) 1 refl in
       let four : pins ws j ≡ recordPins m j = pins-at ws m (d .0) n j (d .1) in
       rw (count, bits, four, kind-at bs j l, chance-at bs j l)
 
@@ -73,15 +73,15 @@ unfolding openLive
 open-live bs = same-live-gates (imageWords bs) [] [] (imageKinds bs) (imageChances bs) ∙ ap liveGates (plain-net bs)
 
 -- refusal 9 does not apply to it
-single-readers : (bs : List ℕ) → sharedJudgement (imageWords bs) ≡ fine → SingleReaders (imageNet bs)
+single-readers : (bs : List ℕ) → sharedJudgement (imageWords bs) ≡ Fine → SingleReaders (imageNet bs)
 unfolding sharedJudgement
 single-readers bs e =
     let ws = imageWords bs in
-    let none : firstShared (netOf ws [] []) ≡ gates ws = eqb-true _ _ (demand-fine _ 9 _ e) in
+    let none : firstShared (netOf ws [] []) ≡ gates ws = eqb-true _ _ (unless-fine _ 9 _ e) in
     subst SingleReaders (plain-net bs)
     (same-single-readers ws [] [] (imageKinds bs) (imageChances bs) (none-single (netOf ws [] []) (none ∙ sym (gate-count ws [] []))))
 
-pub opened : (bs ws : List ℕ) → openJudgement bs (length ws) ≡ fine → Agree (openWords bs ws) (imageBook bs)
+pub opened : (bs ws : List ℕ) → openJudgement bs (length ws) ≡ Fine → Agree (openWords bs ws) (imageBook bs)
 unfolding openJudgement openWords
 opened bs ws e =
     let rest = drop (needed (imageGates bs) (imageOutputs bs)) ws in
@@ -104,7 +104,7 @@ opened bs ws e =
           record {
             flips =
                 λ j l.
-                work-all-other before (8 + 8 * j + 6) (λ q. omega arith) (λ i from to q. omega arith) ∙ flips-at bs rest j (omega arith);
+                work-all-other before (flipIndex j) (λ q. omega arith) (λ i from to q. omega arith) ∙ flips-at bs rest j (omega arith);
           };
       chances-fit = λ j l. chances-fit bs (image .0) j (omega arith);
       same-pattern = work-all-other before 3 (λ q. omega arith) (λ i from to q. omega arith) ∙ head-pattern bs rest;

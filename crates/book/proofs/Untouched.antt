@@ -7,16 +7,19 @@ use borrow.Author.Tests.{leb-true}
 use lib.Dec.{leb}
 use lib.ListN.{length, getD, drop, length-append, length-drop}
 use lib.Seq.{getD-append-add, getD-drop}
-use Rattle.words.specs.Words.{gates, outputs, needed}
-use Rattle.words.specs.Work.{workAll}
-use Rattle.words.proofs.Frame.{SameFrame, past-kept, same-refl, same-toggle, same-set, same-work-all}
-use Rattle.image.specs.Judgement.{Judgement, fine, refusal, otherwise}
+use Rattle.area.specs.Layout.{gates, outputs, needed}
+use Rattle.work.specs.Work.{workAll}
+use Rattle.work.proofs.Frame.{SameFrame, past-kept, same-refl, same-toggle, same-set, same-work-all}
+use Rattle.refusal.specs.declared.Judgement.{Judgement}
+use Rattle.refusal.specs.declared.Judgement.the-variants.{Fine, Refused}
+use Rattle.refusal.specs.Judgement.{otherwise}
 use Rattle.image.specs.Image.{imageGates, imageOutputs}
 use Rattle.image.specs.Refusals.{imageRefusal}
 use Rattle.image.specs.Loading.{imageWords}
-use Rattle.image.proofs.Judged.{demand-fine, otherwise-fine}
+use Rattle.refusal.proofs.Laws.{unless-fine, otherwise-fine}
 use Rattle.image.proofs.Middle.{length-words}
-use Rattle.calls.specs.Judged.{areaJudgement, named, flipJudgement, sharedJudgement, openJudgement, setJudgement}
+use Rattle.area.specs.Rules.{areaJudgement}
+use Rattle.calls.specs.Judged.{named, flipJudgement, sharedJudgement, openJudgement, setJudgement}
 use Rattle.calls.specs.Calls.{Call, open-image, toggle-input, set-flip, read-netlist, read-gate, take-average, flipUnits, openWords, judgement, work, leftBy}
 use Rattle.book.proofs.Judged.{named-below}
 use Rattle.book.proofs.Open.{head-gates, head-outputs}
@@ -25,7 +28,7 @@ use Rattle.book.specs.Statement.{neededBy, Untouched, PastUntouched}
 frame-untouched : (ws vs : List ℕ) → SameFrame ws vs → Untouched (needed (gates ws) (outputs ws)) ws vs
 frame-untouched ws vs same = record { size = same .size; past = past-kept ws vs same }
 
-open-untouched : (bs ws : List ℕ) → openJudgement bs (length ws) ≡ fine → Untouched (needed (imageGates bs) (imageOutputs bs)) ws (openWords bs ws)
+open-untouched : (bs ws : List ℕ) → openJudgement bs (length ws) ≡ Fine → Untouched (needed (imageGates bs) (imageOutputs bs)) ws (openWords bs ws)
 unfolding openJudgement openWords
 open-untouched bs ws e =
     let need = needed (imageGates bs) (imageOutputs bs) in
@@ -33,7 +36,7 @@ open-untouched bs ws e =
     let same = same-work-all before in
     let image = otherwise-fine (imageRefusal bs) _ e in
     let room : need ≤ length ws
-    = leb-true need (length ws) (demand-fine (leb need (length ws)) 13 0 (otherwise-fine (sharedJudgement (imageWords bs)) _ (image .1) .1)) in
+    = leb-true need (length ws) (unless-fine (leb need (length ws)) 13 0 (otherwise-fine (sharedJudgement (imageWords bs)) _ (image .1) .1)) in
     record {
       size = same .size ∙ omega (arith, length-append (imageWords bs) (drop need ws), length-words bs, length-drop need ws);
       past =
@@ -48,7 +51,7 @@ open-untouched bs ws e =
           ∙ ap (λ (t : ℕ). getD ws t 0) back;
     }
 
-work-untouched : (ws : List ℕ) (call : Call) → judgement ws call ≡ fine → Untouched (neededBy ws call) ws (work ws call)
+work-untouched : (ws : List ℕ) (call : Call) → judgement ws call ≡ Fine → Untouched (neededBy ws call) ws (work ws call)
 unfolding setJudgement
 work-untouched ws (open-image bs) e = open-untouched bs ws e
 work-untouched ws (toggle-input i) e = frame-untouched ws _ (same-toggle ws i)
@@ -64,5 +67,5 @@ pub past-untouched : PastUntouched
 past-untouched ws call = go (judgement ws call) refl
   where
     go : (v : Judgement) → judgement ws call ≡ v → Untouched (neededBy ws call) ws (leftBy v (work ws call) ws)
-    go fine e = work-untouched ws call e
-    go (refusal number place) e = record { size = refl; past = λ i l. refl }
+    go Fine e = work-untouched ws call e
+    go (Refused number place) e = record { size = refl; past = λ i l. refl }

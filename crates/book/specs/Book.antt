@@ -5,8 +5,11 @@ use mathlib.Core.List.{List, [], _∷_}
 use lib.ListN.{length, take, set}
 use Rattle.chance.specs.Flip.{flipChance}
 use Rattle.netlist.specs.Netlist.{Gate, Netlist, gateAt}
-use Rattle.words.specs.Work.{invertBit}
-use Rattle.image.specs.Judgement.{Judgement, fine, refusal, otherwise, joined}
+use Rattle.work.specs.Work.{invertBit}
+use Rattle.refusal.specs.declared.Judgement.{Judgement}
+use Rattle.refusal.specs.declared.Judgement.the-variants.{Fine, Refused}
+use Rattle.refusal.specs.Judgement.{otherwise}
+use Rattle.lists.specs.Lists.{joined}
 use Rattle.image.specs.Image.{imageInputs, imageGates, imageOutputs, middle, recordCount, recordKind, recordTable, recordPins}
 use Rattle.image.specs.Loading.{recordChance, outputWord}
 use Rattle.calls.specs.Judged.{named, flipJudgement, weightsJudgement, openJudgement}
@@ -50,7 +53,7 @@ abbrev pub bookJudgement : Book → ℕ → Call → Judgement
 bookJudgement b size (open-image bs) = openJudgement bs size
 bookJudgement b size (toggle-input i) = named i (b .net .inputs)
 bookJudgement b size (set-flip g kind field) = otherwise (named g (length (b .net .gates))) (flipJudgement g kind field)
-bookJudgement b size read-netlist = fine
+bookJudgement b size read-netlist = Fine
 bookJudgement b size (read-gate g) = named g (length (b .net .gates))
 bookJudgement b size (take-average weights) = weightsJudgement (b .net .inputs) weights
 
@@ -74,8 +77,8 @@ entered b (take-average weights) = b
 
 -- a refused call enters nothing
 abbrev pub unlessRefused : Judgement → Book → Book → Book
-unlessRefused fine new old = new
-unlessRefused (refusal number place) new old = old
+unlessRefused Fine new old = new
+unlessRefused (Refused number place) new old = old
 
 abbrev pub bookStep : Book → ℕ → Call → Book
 bookStep b size call = unlessRefused (bookJudgement b size call) (entered b call) b

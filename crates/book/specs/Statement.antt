@@ -10,8 +10,8 @@ use Rattle.netlist.specs.Live.{liveGates}
 use Rattle.netlist.specs.Exact.{exactSum}
 use Rattle.netlist.specs.Average.{totalWeight, exactAverageSum}
 use Rattle.bound.specs.Statements.{denominator}
-use Rattle.words.specs.Words.{gates, outputs, reliabilityWord, needed}
-use Rattle.image.specs.Judgement.{fine, refusal}
+use Rattle.area.specs.Layout.{gates, outputs, reliabilityWord, needed}
+use Rattle.refusal.specs.declared.Judgement.the-variants.{Fine, Refused}
 use Rattle.image.specs.Image.{imageGates, imageOutputs}
 use Rattle.calls.specs.Judged.{openJudgement}
 use Rattle.calls.specs.Calls.{Call, open-image, toggle-input, set-flip, read-netlist, read-gate, take-average, openWords, averageOf, judgement, left}
@@ -45,8 +45,8 @@ AnswerKept ws b (take-average weights) = AverageWithin (averageOf ws weights) we
 -- a call is refused exactly where the book says, with that number and place, and never with 14
 pub record CallKept (ws : List ℕ) (b : Book) (call : Call) : Type 0 where
   pub judged : judgement ws call ≡ bookJudgement b (length ws) call
-  pub never-14 : (place : ℕ) → judgement ws call ≢ refusal 14 place
-  pub answer : judgement ws call ≡ fine → AnswerKept ws b call
+  pub never-14 : (place : ℕ) → judgement ws call ≢ Refused 14 place
+  pub answer : judgement ws call ≡ Fine → AnswerKept ws b call
 
 -- on an area whose words are ws and whose book is b: word 4 is within the bound now and after each of the calls, and each call is as promised
 abbrev pub Kept : List ℕ → Book → List Call → Type 0
@@ -57,7 +57,7 @@ Kept ws b (call ∷ calls) =
 -- an accepted opening into an area that held any words, then any calls, further openings and refused calls among them
 abbrev pub Demand3 : Type 0
 Demand3 =
-    (ws bs : List ℕ) (calls : List Call) → openJudgement bs (length ws) ≡ fine → Kept (openWords bs ws) (imageBook bs) calls
+    (ws bs : List ℕ) (calls : List Call) → openJudgement bs (length ws) ≡ Fine → Kept (openWords bs ws) (imageBook bs) calls
 
 -- beside demand 3, of any area: the words that a call needs, by the image's counts at opening and by the area's elsewhere
 abbrev pub neededBy : List ℕ → Call → ℕ

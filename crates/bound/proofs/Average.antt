@@ -8,7 +8,8 @@ use Rattle.rounding.proofs.Laws.{near}
 use Rattle.netlist.specs.Exact.{exactSum}
 use Rattle.netlist.specs.Figures.{reliability}
 use Rattle.netlist.specs.Live.{liveGates}
-use Rattle.netlist.specs.Average.{sumBelow, weightedSum, totalWeight, exactAverageSum, averageUnits}
+use Rattle.lists.specs.Lists.{sumBelow}
+use Rattle.netlist.specs.Average.{weightedSum, totalWeight, exactAverageSum, averageUnits}
 use Rattle.bound.specs.Statements.{denominator, ReliabilityBound, AverageBound}
 use Rattle.bound.proofs.Near.{near-at, near-trans, near-add, near-scale}
 use Rattle.bound.proofs.Bound.{bound}

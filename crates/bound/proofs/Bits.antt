@@ -8,8 +8,8 @@ use mathlib.Core.Logic.{_⊎_, inl, inr, ⊎-elim}
 use native.Mathlib.Nat.{pow-zero, pow-succ', one-mul, eq-zero-or-pos}
 use native.Mathlib.Omega.{arith}
 use lib.ListN.{length}
-use Rattle.netlist.specs.WellFormed.{Below}
-use Rattle.netlist.specs.Live.{count}
+use Rattle.lists.specs.Lists.{Below}
+use Rattle.lists.specs.Lists.{count}
 use Rattle.netlist.proofs.Count.{count-self, count-append, below-tail}
 use Rattle.bound.proofs.Mix.{upd, upd-same, upd-other, mix, mix-same, mix-linear, mix-given}
 

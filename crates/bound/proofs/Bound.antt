@@ -18,7 +18,8 @@ use Rattle.netlist.specs.Netlist.{Gate, Netlist, gateAt, inputValues, pinValues
 use Rattle.netlist.specs.WellFormed.{WellFormed}
 use Rattle.netlist.specs.Exact.{exactSum}
 use Rattle.netlist.specs.Figures.{pinFailures, failures, reliability}
-use Rattle.netlist.specs.Live.{count, liveReadsFrom, liveReads, readers, liveGates, SingleReaders}
+use Rattle.lists.specs.Lists.{count}
+use Rattle.netlist.specs.Live.{liveReadsFrom, liveReads, readers, liveGates, SingleReaders}
 use Rattle.netlist.proofs.Values.{inputs-length, input-value, right-input, right-gate}
 use Rattle.netlist.proofs.Failures.{failures-length, failure-input, failure-gate, failures-at-most, start-fold}
 use Rattle.netlist.proofs.Each.{AllFrom}

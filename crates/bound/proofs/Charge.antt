@@ -12,8 +12,9 @@ use lib.Dec.{eqb, leb}
 use borrow.Author.Tests.{le-leb, lt-leb, eq-eqb, ne-eqb}
 use Rattle.figure.specs.Figure.{bitOf}
 use Rattle.netlist.specs.Netlist.{Gate}
-use Rattle.netlist.specs.WellFormed.{Below}
-use Rattle.netlist.specs.Live.{count, isLive, withGate, liveReadsFrom, liveAmong}
+use Rattle.lists.specs.Lists.{Below}
+use Rattle.lists.specs.Lists.{count}
+use Rattle.netlist.specs.Live.{isLive, withGate, liveReadsFrom, liveAmong}
 use Rattle.netlist.proofs.Count.{below-tail}
 use Rattle.netlist.proofs.Each.{AllFrom, all-head, all-tail, pinsBelow}
 use Rattle.netlist.proofs.Live.{ifLive, count-later, among-step}

@@ -6,7 +6,8 @@ use lib.Dec.{le→leb, lit≤, lit<}
 use Rattle.rounding.specs.Rounding.{unitsInOne, roundDiv, blend, toUnits, Near}
 use Rattle.figure.specs.Figure.{answer, difference, startValues, gateStep, gateFailure, outputStep}
 use Rattle.netlist.specs.Netlist.{gateAt, rightValues}
-use Rattle.netlist.specs.WellFormed.{Below, WellFormed}
+use Rattle.lists.specs.Lists.{Below}
+use Rattle.netlist.specs.WellFormed.{WellFormed}
 use Rattle.netlist.specs.Exact.{exactSum}
 use Rattle.netlist.specs.Figures.{failures, reliability}
 use Rattle.netlist.specs.Live.{liveReads, readers, liveGates, SingleReaders}

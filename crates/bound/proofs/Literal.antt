@@ -11,7 +11,7 @@ use lib.Seq.{getD-at}
 use lib.Arith.{sub-sub-self}
 use Rattle.figure.specs.Figure.{invertIf, inverted, answer}
 use Rattle.netlist.specs.Netlist.{Gate, pinValues, values}
-use Rattle.netlist.specs.WellFormed.{Below}
+use Rattle.lists.specs.Lists.{Below}
 use Rattle.netlist.specs.Exact.{sumOverFlips, weight, outputsAgree}
 use Rattle.netlist.proofs.Count.{below-tail}
 use Rattle.netlist.proofs.Each.{AllFrom, all-head, all-tail, pinsBelow}

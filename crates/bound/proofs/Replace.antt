@@ -12,8 +12,9 @@ use lib.Pow.{pow-add}
 use lib.Dec.{eqb}
 use Rattle.rounding.specs.Rounding.{Near}
 use Rattle.netlist.specs.Netlist.{Gate}
-use Rattle.netlist.specs.WellFormed.{Below}
-use Rattle.netlist.specs.Live.{count, isLive, liveReadsFrom}
+use Rattle.lists.specs.Lists.{Below}
+use Rattle.lists.specs.Lists.{count}
+use Rattle.netlist.specs.Live.{isLive, liveReadsFrom}
 use Rattle.netlist.proofs.Count.{count-self, count-append}
 use Rattle.netlist.proofs.Each.{AllFrom, all-head, all-tail, pinsBelow}
 use Rattle.netlist.proofs.Live.{ifLive}

@@ -4,9 +4,9 @@ use mathlib.Core.Path.{_≡_, refl, sym, ap, ap₂, _∙_}
 use mathlib.Core.List.{List, [], _++_, append-nil}
 use native.Mathlib.Omega.{arith}
 use lib.ListN.{take, getD}
-use Rattle.words.specs.Words.{inputs, gates, outputs, pinCount, table, pins, usedPins}
-use Rattle.live.specs.Net.{netOf}
-use Rattle.live.proofs.Net.{SameNet, same-net}
+use Rattle.area.specs.Layout.{inputs, gates, outputs, gateIndex, pinCount, table, pins, usedPins}
+use Rattle.area.specs.Net.{netOf}
+use Rattle.area.proofs.Net.{SameNet, same-net}
 use Rattle.image.specs.Image.{imageInputs, imageGates, imageOutputs, middle, recordCount, recordTable, recordPins}
 use Rattle.image.specs.Loading.{middleWords, imageWords}
 use Rattle.image.proofs.Sound.{word-at, pins-at, gate-stands, outputs-stand}
@@ -27,12 +27,12 @@ module _ (bs rest : List ℕ) where
   loaded-count : (j : ℕ) → j < imageGates bs → pinCount (imageWords bs ++ rest) j ≡ recordCount (middle bs) j
   loaded-count j l =
       let d = gate-stands bs rest j l in
-      word-at (imageWords bs ++ rest) (middle bs) (d .0) (imageInputs bs) j (d .1) (8 + 8 * j) 0 (omega arith)
+      word-at (imageWords bs ++ rest) (middle bs) (d .0) (imageInputs bs) j (d .1) (gateIndex j) 0 (omega arith)
 
   loaded-table : (j : ℕ) → j < imageGates bs → table (imageWords bs ++ rest) j ≡ recordTable (middle bs) j
   loaded-table j l =
       let d = gate-stands bs rest j l in
-      word-at (imageWords bs ++ rest) (middle bs) (d .0) (imageInputs bs) j (d .1) (8 + 8 * j + 1) 1 refl
+      word-at (imageWords bs ++ rest) (middle bs) (d .0) (imageInputs bs) j (d .1) (gateIndex j + 1) 1 refl
 
   loaded-used : (j : ℕ) → j < imageGates bs → usedPins (imageWords bs ++ rest) j ≡ take (recordCount (middle bs) j) (recordPins (middle bs) j)
   loaded-used j l =

@@ -9,9 +9,9 @@ use Rattle.chance.specs.Number.{chanceScale, wholeChance, fromZeroToOne}
 use Rattle.chance.specs.Flip.{flipOf, inRange, flipAccepted, chanceOf, flipChance}
 use Rattle.figure.specs.Figure.{answer, difference, startValues, gateStep, gateFailure, gateWord, outputStep}
 use Rattle.netlist.specs.Live.{liveReads, liveGates, firstShared}
-use Rattle.words.specs.Words.{figure}
-use Rattle.words.specs.Rules.{gateShape, usedBelow, countsInRange}
-use Rattle.words.specs.Work.{gateFigure, workGate, reliabilityNow, workReliability, workAll}
+use Rattle.area.specs.Layout.{mostWords, figure}
+use Rattle.area.specs.Rules.{gateShape, usedBelow, countsInRange}
+use Rattle.work.specs.Work.{gateFigure, workGate, reliabilityNow, workReliability, workAll}
 use Rattle.image.specs.Image.{middle}
 use Rattle.image.specs.Refusals.{lengthRight, backRight, trailerRefusal, gateRefusal, outputRefusal, middleRefusal, imageRefusal}
 use Rattle.image.specs.Loading.{recordChance, recordUnits, middleWords, imageWords}
@@ -20,7 +20,7 @@ use Rattle.calls.specs.Calls.{leftBy, openWords, openLive, reliabilityAt
 use Rattle.calls.specs.Sheets.{Sheet, sheets, atPatterns, printedImage, andInverterImage}
 
 -- how each is judged, in an area of 8,264 words
-pub judged : map (λ (s : Sheet). openJudgement (s .image) 8264) sheets ≡ map (λ (s : Sheet). s .judged) sheets
+pub judged : map (λ (s : Sheet). openJudgement (s .image) mostWords) sheets ≡ map (λ (s : Sheet). s .judged) sheets
 unfolding
     openJudgement imageRefusal trailerRefusal lengthRight countsInRange backRight middleRefusal middle gateRefusal outputRefusal gateShape usedBelow
     flipAccepted inRange fromZeroToOne ofBits sharedJudgement firstShared liveReads imageWords middleWords

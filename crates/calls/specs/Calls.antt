@@ -6,19 +6,21 @@ use Rattle.rounding.specs.Rounding.{unitsInOne, roundDiv, toUnits}
 use Rattle.chance.specs.Number.{chanceScale}
 use Rattle.chance.specs.Flip.{flipChance}
 use Rattle.netlist.specs.Live.{liveGates}
-use Rattle.netlist.specs.Average.{sumBelow}
-use Rattle.words.specs.Words.{inputs, reliabilityWord, needed}
-use Rattle.words.specs.Work.{workAll, toggleWords, setWords}
-use Rattle.live.specs.Net.{netOf}
-use Rattle.image.specs.Judgement.{Judgement, fine, refusal}
+use Rattle.lists.specs.Lists.{sumBelow}
+use Rattle.area.specs.Layout.{inputs, patternIndex, reliabilityWord, needed}
+use Rattle.work.specs.Work.{workAll, toggleWords, setWords}
+use Rattle.area.specs.Net.{netOf}
+use Rattle.refusal.specs.declared.Judgement.{Judgement}
+use Rattle.refusal.specs.declared.Judgement.the-variants.{Fine, Refused}
 use Rattle.image.specs.Image.{imageGates, imageOutputs}
 use Rattle.image.specs.Loading.{imageWords}
-use Rattle.calls.specs.Judged.{openJudgement, areaJudgement, toggleJudgement, setJudgement, gateJudgement, averageJudgement}
+use Rattle.calls.specs.Judged.{openJudgement, toggleJudgement, setJudgement, gateJudgement, averageJudgement}
+use Rattle.area.specs.Rules.{areaJudgement}
 
 -- the words of the work, or those that stood where the call is refused
 abbrev pub leftBy : Judgement → List ℕ → List ℕ → List ℕ
-leftBy fine work stood = work
-leftBy (refusal number place) work stood = stood
+leftBy Fine work stood = work
+leftBy (Refused number place) work stood = stood
 
 -- open: the image's words, pattern 0, every figure worked out; words past those needed are not touched
 unfoldable pub openWords : List ℕ → List ℕ → List ℕ
@@ -34,7 +36,7 @@ flipUnits kind field = toUnits unitsInOne chanceScale (flipChance kind field)
 
 -- the reliability with everything worked out afresh for pattern q
 unfoldable pub reliabilityAt : List ℕ → ℕ → ℕ
-reliabilityAt ws q = reliabilityWord (workAll (set ws 3 q))
+reliabilityAt ws q = reliabilityWord (workAll (set ws patternIndex q))
 
 -- the weighted average over all patterns
 unfoldable pub averageOf : List ℕ → List ℕ → ℕ

@@ -6,41 +6,43 @@ use lib.Dec.{leb, ltb, eqb}
 use lib.ListN.{length, getD}
 use Rattle.chance.specs.Flip.{flipAccepted}
 use Rattle.netlist.specs.Live.{firstShared}
-use Rattle.words.specs.Words.{inputs, gates, needed}
-use Rattle.words.specs.Rules.{allZero, areaRefusal}
-use Rattle.live.specs.Net.{netOf}
-use Rattle.image.specs.Judgement.{Judgement, demand, otherwise, lowest}
+use Rattle.area.specs.Layout.{inputs, gates, needed}
+use Rattle.lists.specs.Lists.{allZero}
+use Rattle.area.specs.Rules.{areaRefusal}
+use Rattle.area.specs.Net.{netOf}
+use Rattle.refusal.specs.declared.Judgement.{Judgement}
+use Rattle.refusal.specs.Judgement.{refuseUnless, otherwise, lowest}
 use Rattle.image.specs.Image.{imageGates, imageOutputs}
 use Rattle.image.specs.Refusals.{imageRefusal}
 use Rattle.image.specs.Loading.{imageWords}
 
 -- 13 and 14 of the area that a call is lent
 unfoldable pub areaJudgement : List ℕ → Judgement
-areaJudgement ws = demand (eqb (areaRefusal ws) 0) (areaRefusal ws) 0
+areaJudgement ws = refuseUnless (eqb (areaRefusal ws) 0) (areaRefusal ws) 0
 
 -- 10: a call names an input or a gate that does not exist
 abbrev pub named : ℕ → ℕ → Judgement
-named x count = demand (ltb x count) 10 x
+named x count = refuseUnless (ltb x count) 10 x
 
 -- 11: a call's flip kind or field is bad by 7
 abbrev pub flipJudgement : ℕ → ℕ → List ℕ → Judgement
-flipJudgement g kind field = demand (flipAccepted kind field) 11 g
+flipJudgement g kind field = refuseUnless (flipAccepted kind field) 11 g
 
 -- 12: the length of the weights, else the lowest one above 1,048,575, else all zero
 unfoldable pub weightsJudgement : ℕ → List ℕ → Judgement
 weightsJudgement n weights =
-    otherwise (demand (eqb (length weights) (2 ^ n)) 12 0)
-    (otherwise (lowest (λ q. demand (leb (getD weights q 0) 1_048_575) 12 q) (length weights)) (demand (not (allZero weights)) 12 0))
+    otherwise (refuseUnless (eqb (length weights) (2 ^ n)) 12 0)
+    (otherwise (lowest (λ q. refuseUnless (leb (getD weights q 0) 1_048_575) 12 q) (length weights)) (refuseUnless (not (allZero weights)) 12 0))
 
 -- 9: the lowest gate with two live readers, in the words of a netlist
 unfoldable pub sharedJudgement : List ℕ → Judgement
-sharedJudgement ws = demand (eqb (firstShared (netOf ws [] [])) (gates ws)) 9 (firstShared (netOf ws [] []))
+sharedJudgement ws = refuseUnless (eqb (firstShared (netOf ws [] [])) (gates ws)) 9 (firstShared (netOf ws [] []))
 
 -- opening an image into an area of `size` words
 unfoldable pub openJudgement : List ℕ → ℕ → Judgement
 openJudgement bs size =
     otherwise (imageRefusal bs)
-    (otherwise (sharedJudgement (imageWords bs)) (demand (leb (needed (imageGates bs) (imageOutputs bs)) size) 13 0))
+    (otherwise (sharedJudgement (imageWords bs)) (refuseUnless (leb (needed (imageGates bs) (imageOutputs bs)) size) 13 0))
 
 unfoldable pub toggleJudgement : List ℕ → ℕ → Judgement
 toggleJudgement ws i = otherwise (areaJudgement ws) (named i (inputs ws))

@@ -3,8 +3,10 @@
 use Prim.Native.Nat.{ℕ, _^_}
 use mathlib.Core.List.{List, [], _∷_}
 use lib.ListN.{replicate}
-use Rattle.words.specs.Words.{inputs}
-use Rattle.image.specs.Judgement.{Judgement, fine, refusal, joined}
+use Rattle.area.specs.Layout.{inputs}
+use Rattle.refusal.specs.declared.Judgement.{Judgement}
+use Rattle.refusal.specs.declared.Judgement.the-variants.{Fine, Refused}
+use Rattle.lists.specs.Lists.{joined}
 use Rattle.calls.specs.Calls.{reliabilityAt}
 
 -- the printed sheet: buffers at chance 0.5 on inputs 0 and 1, and an AND of both that never flips
@@ -83,12 +85,12 @@ atPatterns ws = joined (λ (q : ℕ). reliabilityAt ws q ∷ []) (2 ^ inputs ws)
 
 abbrev pub sheets : List Sheet
 sheets =
-    record { image = printedImage; judged = fine; live = 3; units = 805_306_368 ∷ 805_306_368 ∷ 805_306_368 ∷ 268_435_456 ∷ [] }
-    ∷ record { image = twoAndsImage; judged = fine; live = 2; units = replicate 8 969_051_997 }
-    ∷ record { image = andInverterImage; judged = fine; live = 2; units = replicate 4 971_736_351 }
-    ∷ record { image = sureBuffersImage; judged = fine; live = 2; units = replicate 2 1_073_741_824 }
-    ∷ record { image = noGatesImage; judged = fine; live = 0; units = replicate 2 1_073_741_824 }
-    ∷ record { image = gateTwiceImage; judged = refusal 9 0; live = 2; units = [] }
-    ∷ record { image = inputTwiceImage; judged = fine; live = 1; units = replicate 2 1_073_741_824 }
-    ∷ record { image = deadReaderImage; judged = fine; live = 2; units = replicate 2 536_870_912 }
+    record { image = printedImage; judged = Fine; live = 3; units = 805_306_368 ∷ 805_306_368 ∷ 805_306_368 ∷ 268_435_456 ∷ [] }
+    ∷ record { image = twoAndsImage; judged = Fine; live = 2; units = replicate 8 969_051_997 }
+    ∷ record { image = andInverterImage; judged = Fine; live = 2; units = replicate 4 971_736_351 }
+    ∷ record { image = sureBuffersImage; judged = Fine; live = 2; units = replicate 2 1_073_741_824 }
+    ∷ record { image = noGatesImage; judged = Fine; live = 0; units = replicate 2 1_073_741_824 }
+    ∷ record { image = gateTwiceImage; judged = Refused 9 0; live = 2; units = [] }
+    ∷ record { image = inputTwiceImage; judged = Fine; live = 1; units = replicate 2 1_073_741_824 }
+    ∷ record { image = deadReaderImage; judged = Fine; live = 2; units = replicate 2 536_870_912 }
     ∷ []

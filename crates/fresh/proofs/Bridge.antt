@@ -15,12 +15,13 @@ use Rattle.netlist.specs.Netlist.{Gate, Netlist, pinValues, rightValues}
 use Rattle.netlist.specs.Figures.{pinFailures, failures, reliabilityFrom, reliability}
 use Rattle.netlist.proofs.Values.{right-input, right-gate, rightStep}
 use Rattle.netlist.proofs.Failures.{failure-input, failure-gate, failureStep}
-use Rattle.words.specs.Words.{inputs, gates, pattern, reliabilityWord, table, flip, usedPins, outputWords, sourceWord}
-use Rattle.words.specs.Rules.{Sound}
-use Rattle.words.specs.Work.{gateFigure, productFrom, reliabilityNow}
-use Rattle.words.proofs.Sound.{used-pin-below, output-below}
-use Rattle.live.specs.Net.{netOf}
-use Rattle.live.proofs.Net.{gate-at, gate-count, sound-pins}
+use Rattle.area.specs.Layout.{inputs, gates, pattern, reliabilityWord, table, flip, usedPins, outputWords, sourceWord}
+use Rattle.area.specs.Rules.{Sound}
+use Rattle.work.specs.Work.{gateFigure, reliabilityNow}
+use Rattle.area.specs.Figures.{productFrom}
+use Rattle.work.proofs.Sound.{used-pin-below, output-below}
+use Rattle.area.specs.Net.{netOf}
+use Rattle.area.proofs.Net.{gate-at, gate-count, sound-pins}
 use Rattle.fresh.specs.Fresh.{Fresh, Converted}
 use Rattle.fresh.proofs.Sources.{source-input, source-gate, source-cases}
 

@@ -8,26 +8,26 @@ use native.Mathlib.Omega.{arith}
 use lib.ListN.{length, getD, set, replicate, length-set, length-replicate}
 use lib.Seq.{getD-set-same, getD-set-other}
 use Rattle.rounding.specs.Rounding.{unitsInOne, toUnits}
-use Rattle.words.specs.Words.{inputs, gates, pattern, flip, figure, sourceWord}
-use Rattle.words.specs.Rules.{Sound}
-use Rattle.words.specs.Work.{workGate, workMarked, markOf, invertBit, toggleWords, setWords}
-use Rattle.words.proofs.Frame.{SameFrame, same-inputs, same-gates, same-used-pins, same-table, same-output-words, same-trans, same-store-pattern, same-store-flip}
-use Rattle.words.proofs.Frame.{same-work-gate, same-work-marked, same-toggle, same-set, work-gate-other, work-marked-other, work-reliability-other, toggle-other, set-other}
-use Rattle.words.proofs.Pattern.{invert-fits, invert-other}
-use Rattle.words.proofs.Sound.{sound-work-gate, sound-work-marked, sound-store-pattern, sound-store-flip}
-use Rattle.live.specs.Net.{netOf}
-use Rattle.live.proofs.Net.{same-net}
+use Rattle.area.specs.Layout.{mostSources, inputs, gates, patternIndex, pattern, flipIndex, flip, figureIndex, figure, sourceWord}
+use Rattle.area.specs.Rules.{Sound}
+use Rattle.work.specs.Work.{workGate, workMarked, markOf, invertBit, toggleWords, setWords}
+use Rattle.work.proofs.Frame.{SameFrame, same-inputs, same-gates, same-used-pins, same-table, same-output-words, same-trans, same-store-pattern, same-store-flip}
+use Rattle.work.proofs.Frame.{same-work-gate, same-work-marked, same-toggle, same-set, work-gate-other, work-marked-other, work-reliability-other, toggle-other, set-other}
+use Rattle.work.proofs.Pattern.{invert-fits, invert-other}
+use Rattle.work.proofs.Sound.{sound-work-gate, sound-work-marked, sound-store-pattern, sound-store-flip}
+use Rattle.area.specs.Net.{netOf}
+use Rattle.area.proofs.Net.{same-net}
 use Rattle.fresh.specs.Fresh.{Fresh, Converted}
 use Rattle.fresh.proofs.Sources.{source-same, gate-figure-earlier, source-work-gate}
 use Rattle.fresh.proofs.WorkAll.{FreshBelow, fresh-step, fresh-reliability}
 use Rattle.fresh.proofs.Sweep.{Swept, sweep-fresh}
 
 -- the marks at the start
-pub mark-room : (s : ℕ) → length (markOf s) ≡ 1036
-mark-room s = length-set (replicate 1036 0) s 1 ∙ length-replicate {A = ℕ} 1036 0
+pub mark-room : (s : ℕ) → length (markOf s) ≡ mostSources
+mark-room s = length-set (replicate mostSources 0) s 1 ∙ length-replicate {A = ℕ} mostSources 0
 
-pub mark-set : (s : ℕ) → s < 1036 → getD (markOf s) s 0 ≡ 1
-mark-set s l = getD-set-same (replicate 1036 0) s 1 0 (omega (arith, length-replicate {A = ℕ} 1036 0))
+pub mark-set : (s : ℕ) → s < mostSources → getD (markOf s) s 0 ≡ 1
+mark-set s l = getD-set-same (replicate mostSources 0) s 1 0 (omega (arith, length-replicate {A = ℕ} mostSources 0))
 
 -- an area with the same frame holds the same netlist
 pub frame-net : (ws vs kinds chances : List ℕ) → SameFrame ws vs → netOf vs kinds chances ≡ netOf ws kinds chances
@@ -47,22 +47,22 @@ module _ (ws : List ℕ) (i : ℕ) where
   toggle-net kinds chances = frame-net ws (toggleWords ws i) kinds chances (same-toggle ws i)
 
   pub toggle-flip : (j : ℕ) → flip (toggleWords ws i) j ≡ flip ws j
-  toggle-flip j = toggle-other ws i (8 + 8 * j + 6) (λ e. omega arith) (λ e. omega arith) (λ k from to e. omega arith)
+  toggle-flip j = toggle-other ws i (flipIndex j) (λ e. omega arith) (λ e. omega arith) (λ k from to e. omega arith)
 
   pub toggle-pattern : Sound ws → pattern (toggleWords ws i) ≡ invertBit (pattern ws) i
   unfolding toggleWords
   toggle-pattern sound =
       let q = invertBit (pattern ws) i in
-      let stored = set ws 3 q in
+      let stored = set ws patternIndex q in
       work-reliability-other (workMarked stored (markOf i) 0 (gates ws)) 3 (λ e. omega arith)
       ∙ work-marked-other stored (markOf i) 0 (gates ws) 3 (λ j from to e. omega arith)
-      ∙ getD-set-same ws 3 q 0 (omega (arith, sound .long))
+      ∙ getD-set-same ws patternIndex q 0 (omega (arith, sound .long))
 
   -- only input i differs at the start, and it is marked
-  pub toggle-start : Sound ws → i < inputs ws → Swept ws (set ws 3 (invertBit (pattern ws) i)) (markOf i) 0
+  pub toggle-start : Sound ws → i < inputs ws → Swept ws (set ws patternIndex (invertBit (pattern ws) i)) (markOf i) 0
   toggle-start sound l =
       let q = invertBit (pattern ws) i in
-      let stored = set ws 3 q in
+      let stored = set ws patternIndex q in
       let same = same-store-pattern ws q in
       let n = same-inputs ws stored same in
       record {
@@ -70,14 +70,14 @@ module _ (ws : List ℕ) (i : ℕ) where
         sound = sound-store-pattern ws q sound (invert-fits (pattern ws) i (inputs ws) l (sound .pattern-fits));
         room = mark-room i;
         fresh = λ b none. absurd (omega arith);
-        figures-kept = λ k from. getD-set-other ws 3 (8 + 8 * k + 7) q 0 (λ e. omega arith);
-        flips-kept = λ k from. getD-set-other ws 3 (8 + 8 * k + 6) q 0 (λ e. omega arith);
+        figures-kept = λ k from. getD-set-other ws patternIndex (figureIndex k) q 0 (λ e. omega arith);
+        flips-kept = λ k from. getD-set-other ws patternIndex (flipIndex k) q 0 (λ e. omega arith);
         unmarked =
             λ s below clear.
             let other : s ≢ i = λ e. clear (ap (λ (t : ℕ). getD (markOf i) t 0) e ∙ mark-set i (omega (arith, sound .inputs-fit))) in
             source-same ws stored n s
             (λ small.
-            ap (λ (x : ℕ). x / 2 ^ s % 2) (getD-set-same ws 3 q 0 (omega (arith, sound .long))) ∙ invert-other (pattern ws) i s other)
+            ap (λ (x : ℕ). x / 2 ^ s % 2) (getD-set-same ws patternIndex q 0 (omega (arith, sound .long))) ∙ invert-other (pattern ws) i s other)
             (λ j e. absurd (omega arith));
       }
 
@@ -85,7 +85,7 @@ module _ (ws : List ℕ) (i : ℕ) where
   unfolding toggleWords
   toggle-fresh sound fresh l =
       let q = invertBit (pattern ws) i in
-      let stored = set ws 3 q in
+      let stored = set ws patternIndex q in
       let worked = workMarked stored (markOf i) 0 (gates ws) in
       let start = toggle-start sound l in
       let count = same-gates ws stored (same-store-pattern ws q) in
@@ -103,40 +103,40 @@ module _ (ws : List ℕ) (g units : ℕ) (small : g < gates ws) where
 
   pub set-flip-other : (j : ℕ) → j ≢ g → flip (setWords ws g units) j ≡ flip ws j
   set-flip-other j other =
-      set-other ws g units (8 + 8 * j + 6) small (λ e. other (omega arith)) (λ e. omega arith) (λ k from to e. omega arith)
+      set-other ws g units (flipIndex j) small (λ e. other (omega arith)) (λ e. omega arith) (λ k from to e. omega arith)
 
   pub set-flip : Sound ws → flip (setWords ws g units) g ≡ units
   unfolding setWords
   set-flip sound =
-      let stored = set ws (8 + 8 * g + 6) units in
+      let stored = set ws (flipIndex g) units in
       let first = workGate stored g in
-      work-reliability-other (workMarked first (markOf (inputs ws + g)) (suc g) (gates ws - suc g)) (8 + 8 * g + 6) (λ e. omega arith)
-      ∙ work-marked-other first (markOf (inputs ws + g)) (suc g) (gates ws - suc g) (8 + 8 * g + 6) (λ j from to e. omega arith)
-      ∙ work-gate-other stored g (8 + 8 * g + 6) (λ e. omega arith)
-      ∙ getD-set-same ws (8 + 8 * g + 6) units 0 (omega (arith, sound .long))
+      work-reliability-other (workMarked first (markOf (inputs ws + g)) (suc g) (gates ws - suc g)) (flipIndex g) (λ e. omega arith)
+      ∙ work-marked-other first (markOf (inputs ws + g)) (suc g) (gates ws - suc g) (flipIndex g) (λ j from to e. omega arith)
+      ∙ work-gate-other stored g (flipIndex g) (λ e. omega arith)
+      ∙ getD-set-same ws (flipIndex g) units 0 (omega (arith, sound .long))
 
   -- a flip is no source's word
-  source-store-flip : (s : ℕ) → sourceWord (set ws (8 + 8 * g + 6) units) s ≡ sourceWord ws s
+  source-store-flip : (s : ℕ) → sourceWord (set ws (flipIndex g) units) s ≡ sourceWord ws s
   source-store-flip s =
-      let stored = set ws (8 + 8 * g + 6) units in
+      let stored = set ws (flipIndex g) units in
       source-same ws stored (same-inputs ws stored (same-store-flip ws g units small)) s
-      (λ l. ap (λ (q : ℕ). q / 2 ^ s % 2) (getD-set-other ws (8 + 8 * g + 6) 3 units 0 (λ e. omega arith)))
-      (λ j e. getD-set-other ws (8 + 8 * g + 6) (8 + 8 * j + 7) units 0 (λ q. omega arith))
+      (λ l. ap (λ (q : ℕ). q / 2 ^ s % 2) (getD-set-other ws (flipIndex g) 3 units 0 (λ e. omega arith)))
+      (λ j e. getD-set-other ws (flipIndex g) (figureIndex j) units 0 (λ q. omega arith))
 
   -- once gate g is worked out only its source differs, and it is marked
   pub set-start : Sound ws → Fresh ws → units ≤ unitsInOne
-      → Swept ws (workGate (set ws (8 + 8 * g + 6) units) g) (markOf (inputs ws + g)) (suc g)
+      → Swept ws (workGate (set ws (flipIndex g) units) g) (markOf (inputs ws + g)) (suc g)
   set-start sound fresh fits =
-      let stored = set ws (8 + 8 * g + 6) units in
+      let stored = set ws (flipIndex g) units in
       let first = workGate stored g in
       let store = same-store-flip ws g units small in
       let sound-stored = sound-store-flip ws g units sound small fits in
       let inside : g < gates stored = omega (arith, same-gates ws stored store) in
       let work = same-work-gate stored g inside in
       let flip-kept : (l : ℕ) → l ≢ g → flip stored l ≡ flip ws l
-      = λ l other. getD-set-other ws (8 + 8 * g + 6) (8 + 8 * l + 6) units 0 (λ e. other (omega arith)) in
+      = λ l other. getD-set-other ws (flipIndex g) (flipIndex l) units 0 (λ e. other (omega arith)) in
       let figure-kept : (l : ℕ) → figure stored l ≡ figure ws l
-      = λ l. getD-set-other ws (8 + 8 * g + 6) (8 + 8 * l + 7) units 0 (λ e. omega arith) in
+      = λ l. getD-set-other ws (flipIndex g) (figureIndex l) units 0 (λ e. omega arith) in
       let earlier : FreshBelow stored g
       = λ l below.
       figure-kept l
@@ -147,8 +147,8 @@ module _ (ws : List ℕ) (g units : ℕ) (small : g < gates ws) where
         sound = sound-work-gate stored g sound-stored inside;
         room = mark-room (inputs ws + g);
         fresh = fresh-step stored g sound-stored inside earlier;
-        figures-kept = λ l from. work-gate-other stored g (8 + 8 * l + 7) (λ e. omega arith) ∙ figure-kept l;
-        flips-kept = λ l from. work-gate-other stored g (8 + 8 * l + 6) (λ e. omega arith) ∙ flip-kept l (λ e. omega arith);
+        figures-kept = λ l from. work-gate-other stored g (figureIndex l) (λ e. omega arith) ∙ figure-kept l;
+        flips-kept = λ l from. work-gate-other stored g (flipIndex l) (λ e. omega arith) ∙ flip-kept l (λ e. omega arith);
         unmarked =
             λ s below clear.
             let n = same-inputs ws stored store in
@@ -163,7 +163,7 @@ module _ (ws : List ℕ) (g units : ℕ) (small : g < gates ws) where
   unfolding setWords
   set-fresh sound fresh fits =
       let marks = markOf (inputs ws + g) in
-      let first = workGate (set ws (8 + 8 * g + 6) units) g in
+      let first = workGate (set ws (flipIndex g) units) g in
       let left = gates ws - suc g in
       let worked = workMarked first marks (suc g) left in
       let start = set-start sound fresh fits in

@@ -12,13 +12,13 @@ use lib.Dec.{eqb}
 use borrow.Author.Tests.{eqb-true, eq-eqb}
 use Rattle.netlist.specs.Live.{Depends}
 use Rattle.netlist.proofs.Live.{depends-earlier}
-use Rattle.words.specs.Words.{inputs, gates, pattern, usedPins}
-use Rattle.words.specs.Rules.{Sound}
-use Rattle.words.specs.Work.{workGate, workReliability, readsMarked, workIf, markIf, workMarked, markOf, invertBit, toggleWords, setWords}
-use Rattle.words.proofs.Frame.{SameFrame, same-inputs, same-gates, same-used-pins, same-trans}
-use Rattle.words.proofs.Frame.{same-work-gate, same-work-if, same-store-pattern, same-store-flip, work-if-other, work-reliability-other}
-use Rattle.live.specs.Net.{netOf}
-use Rattle.live.proofs.Net.{sound-pins}
+use Rattle.area.specs.Layout.{inputs, gates, patternIndex, pattern, gateIndex, flipIndex, figureIndex, usedPins}
+use Rattle.area.specs.Rules.{Sound}
+use Rattle.work.specs.Work.{workGate, workReliability, readsMarked, workIf, markIf, workMarked, markOf, invertBit, toggleWords, setWords}
+use Rattle.work.proofs.Frame.{SameFrame, same-inputs, same-gates, same-used-pins, same-trans}
+use Rattle.work.proofs.Frame.{same-work-gate, same-work-if, same-store-pattern, same-store-flip, work-if-other, work-reliability-other}
+use Rattle.area.specs.Net.{netOf}
+use Rattle.area.proofs.Net.{sound-pins}
 use Rattle.fresh.specs.Fresh.{marksFrom, workChosen}
 use Rattle.fresh.proofs.Marks.{Marked, reads-depends, mark-next, toggle-mark, set-mark, toggle-marks, set-marks}
 
@@ -32,7 +32,7 @@ same-answer false true p q = absurd (false≢true (p .1 (q .0 refl)))
 same-answer false false p q = refl
 
 -- a gate that is not chosen keeps its words
-pub chosen-other : (chosen : ℕ → Bool) (ws : List ℕ) (j k i : ℕ) → ((l : ℕ) → j ≤ l → l < j + k → chosen l ≡ true → i ≢ 8 + 8 * l + 7)
+pub chosen-other : (chosen : ℕ → Bool) (ws : List ℕ) (j k i : ℕ) → ((l : ℕ) → j ≤ l → l < j + k → chosen l ≡ true → i ≢ figureIndex l)
     → getD (workChosen chosen ws j k) i 0 ≡ getD ws i 0
 chosen-other chosen ws j zero i h = refl
 chosen-other chosen ws j (suc k) i h =
@@ -96,12 +96,12 @@ module _ (ws kinds chances : List ℕ) (sound : Sound ws) (i : ℕ) (small : i <
   -- toggling works out the gates that depend on input i, and no others
   pub toggle-works : (chosen : ℕ → Bool)
       → ((j : ℕ) → j < gates ws → (chosen j ≡ true) ↔ Depends (netOf ws kinds chances) (inputs ws + j) i)
-      → toggleWords ws i ≡ workReliability (workChosen chosen (set ws 3 (invertBit (pattern ws) i)) 0 (gates ws))
+      → toggleWords ws i ≡ workReliability (workChosen chosen (set ws patternIndex (invertBit (pattern ws) i)) 0 (gates ws))
   unfolding toggleWords
   toggle-works chosen decides =
       let q = invertBit (pattern ws) i in
       ap workReliability
-      (marked-chosen ws kinds chances sound i chosen (set ws 3 q) (markOf i) 0 (gates ws) (same-store-pattern ws q) (omega arith)
+      (marked-chosen ws kinds chances sound i chosen (set ws patternIndex q) (markOf i) 0 (gates ws) (same-store-pattern ws q) (omega arith)
       (toggle-mark ws kinds chances sound i small)
       (λ j from to. decides j to))
 
@@ -115,28 +115,28 @@ module _ (ws kinds chances : List ℕ) (sound : Sound ws) (i : ℕ) (small : i <
 
   -- a gate that does not depend on input i keeps all its words
   pub toggle-keeps : (j r : ℕ) → j < gates ws → r < 8 → (Depends (netOf ws kinds chances) (inputs ws + j) i → ⊥)
-      → getD (toggleWords ws i) (8 + 8 * j + r) 0 ≡ getD ws (8 + 8 * j + r) 0
+      → getD (toggleWords ws i) (gateIndex j + r) 0 ≡ getD ws (gateIndex j + r) 0
   toggle-keeps j r l low free =
       let q = invertBit (pattern ws) i in
       let chosen : ℕ → Bool = λ k. eqb (getD (marksFrom ws (markOf i) 0 (gates ws)) (inputs ws + k) 0) 1 in
-      let at = 8 + 8 * j + r in
+      let at = gateIndex j + r in
       ap (λ (xs : List ℕ). getD xs at 0) (toggle-works chosen toggle-decides)
-      ∙ work-reliability-other (workChosen chosen (set ws 3 q) 0 (gates ws)) at (λ e. omega arith)
-      ∙ chosen-other chosen (set ws 3 q) 0 (gates ws) at
+      ∙ work-reliability-other (workChosen chosen (set ws patternIndex q) 0 (gates ws)) at (λ e. omega arith)
+      ∙ chosen-other chosen (set ws patternIndex q) 0 (gates ws) at
       (λ k from to yes e.
       let same : k ≡ j = omega arith in
       free (subst (λ (x : ℕ). Depends (netOf ws kinds chances) (inputs ws + x) i) same (toggle-decides k (omega arith) .0 yes)))
-      ∙ getD-set-other ws 3 at q 0 (λ e. omega arith)
+      ∙ getD-set-other ws patternIndex at q 0 (λ e. omega arith)
 
 module _ (ws kinds chances : List ℕ) (sound : Sound ws) (g : ℕ) (small : g < gates ws) where
   -- setting gate g's flip works out g and the gates that depend on it, and no others
   pub set-works : (units : ℕ) (chosen : ℕ → Bool)
       → ((j : ℕ) → j < gates ws → (chosen j ≡ true) ↔ ((j ≡ g) ⊎ Depends (netOf ws kinds chances) (inputs ws + j) (inputs ws + g)))
-      → setWords ws g units ≡ workReliability (workChosen chosen (set ws (8 + 8 * g + 6) units) 0 (gates ws))
+      → setWords ws g units ≡ workReliability (workChosen chosen (set ws (flipIndex g) units) 0 (gates ws))
   unfolding setWords
   set-works units chosen decides =
       let net = netOf ws kinds chances in
-      let stored = set ws (8 + 8 * g + 6) units in
+      let stored = set ws (flipIndex g) units in
       let first = workGate stored g in
       let left = gates ws - suc g in
       let store = same-store-flip ws g units small in
@@ -173,11 +173,11 @@ module _ (ws kinds chances : List ℕ) (sound : Sound ws) (g : ℕ) (small : g <
 
   -- another gate that does not depend on g keeps all its words
   pub set-keeps : (units j r : ℕ) → j < gates ws → r < 8 → j ≢ g → (Depends (netOf ws kinds chances) (inputs ws + j) (inputs ws + g) → ⊥)
-      → getD (setWords ws g units) (8 + 8 * j + r) 0 ≡ getD ws (8 + 8 * j + r) 0
+      → getD (setWords ws g units) (gateIndex j + r) 0 ≡ getD ws (gateIndex j + r) 0
   set-keeps units j r l low other free =
-      let stored = set ws (8 + 8 * g + 6) units in
+      let stored = set ws (flipIndex g) units in
       let chosen : ℕ → Bool = λ k. eqb (getD (marksFrom ws (markOf (inputs ws + g)) (suc g) (gates ws - suc g)) (inputs ws + k) 0) 1 in
-      let at = 8 + 8 * j + r in
+      let at = gateIndex j + r in
       ap (λ (xs : List ℕ). getD xs at 0) (set-works units chosen set-decides)
       ∙ work-reliability-other (workChosen chosen stored 0 (gates ws)) at (λ e. omega arith)
       ∙ chosen-other chosen stored 0 (gates ws) at
@@ -187,4 +187,4 @@ module _ (ws kinds chances : List ℕ) (sound : Sound ws) (g : ℕ) (small : g <
       (λ q. other (omega arith))
       (λ d. free (subst (λ (x : ℕ). Depends (netOf ws kinds chances) (inputs ws + x) (inputs ws + g)) same d))
       (set-decides k (omega arith) .0 yes))
-      ∙ getD-set-other ws (8 + 8 * g + 6) at units 0 (λ e. other (omega arith))
+      ∙ getD-set-other ws (flipIndex g) at units 0 (λ e. other (omega arith))

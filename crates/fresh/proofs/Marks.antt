@@ -11,15 +11,16 @@ use lib.Seq.{getD-set-same, getD-set-other}
 use lib.Dec.{eqb}
 use borrow.Author.Tests.{eqb-true}
 use Rattle.netlist.specs.Netlist.{Gate, Netlist, gateAt}
-use Rattle.netlist.specs.Live.{count, Depends, reads, reads-further}
+use Rattle.lists.specs.Lists.{count}
+use Rattle.netlist.specs.Live.{Depends, reads, reads-further}
 use Rattle.netlist.proofs.Count.{count-at, count-index, below-count}
 use Rattle.netlist.proofs.Live.{depends-earlier}
-use Rattle.words.specs.Words.{inputs, gates, usedPins}
-use Rattle.words.specs.Rules.{Sound}
-use Rattle.words.specs.Work.{readsMarked, markIf, markOf}
-use Rattle.words.proofs.Sound.{used-pin-below}
-use Rattle.live.specs.Net.{netOf}
-use Rattle.live.proofs.Net.{gate-at, gate-count, sound-pins}
+use Rattle.area.specs.Layout.{mostSources, inputs, gates, usedPins}
+use Rattle.area.specs.Rules.{Sound}
+use Rattle.work.specs.Work.{readsMarked, markIf, markOf}
+use Rattle.work.proofs.Sound.{used-pin-below}
+use Rattle.area.specs.Net.{netOf}
+use Rattle.area.proofs.Net.{gate-at, gate-count, sound-pins}
 use Rattle.fresh.specs.Fresh.{marksFrom}
 use Rattle.fresh.proofs.Sweep.{none-marked}
 use Rattle.fresh.proofs.Calls.{mark-room, mark-set}
@@ -63,7 +64,7 @@ depends-gate (reads-further k r l h more) = omega arith
 
 -- before gate j: t and the gates below j that depend on it are marked, and nothing else
 pub record Marked (net : Netlist) (t : ℕ) (marks : List ℕ) (j : ℕ) : Type 0 where
-  pub room : length marks ≡ 1036
+  pub room : length marks ≡ mostSources
   pub behind : t < net .inputs + j
   pub own : getD marks t 0 ≡ 1
   pub sure : (s : ℕ) → s < net .inputs + j → getD marks s 0 ≡ 1 → (s ≡ t) ⊎ Depends net s t
@@ -76,10 +77,10 @@ zero-marks (suc n) zero = refl
 zero-marks (suc n) (suc s) = zero-marks n s
 
 -- at the start only t is marked
-pub mark-start : (net : Netlist) (t j : ℕ) → t < 1036 → t < net .inputs + j → ((s : ℕ) → s < net .inputs + j → Depends net s t → ⊥)
+pub mark-start : (net : Netlist) (t j : ℕ) → t < mostSources → t < net .inputs + j → ((s : ℕ) → s < net .inputs + j → Depends net s t → ⊥)
     → Marked net t (markOf t) j
 mark-start net t j fits behind none =
-    let other : (s : ℕ) → s ≢ t → getD (markOf t) s 0 ≡ 0 = λ s ne. getD-set-other (replicate 1036 0) t s 1 0 ne ∙ zero-marks 1036 s in
+    let other : (s : ℕ) → s ≢ t → getD (markOf t) s 0 ≡ 0 = λ s ne. getD-set-other (replicate mostSources 0) t s 1 0 ne ∙ zero-marks mostSources s in
     record {
       room = mark-room t;
       behind = behind;

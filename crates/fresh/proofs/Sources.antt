@@ -10,11 +10,12 @@ use lib.Dec.{ltb}
 use borrow.Author.Tests.{ltb-true, ltb-false, lt-ltb, le-ltb}
 use Rattle.rounding.specs.Rounding.{unitsInOne}
 use Rattle.figure.specs.Figure.{outputStep, failureOf, gateWord}
-use Rattle.words.specs.Words.{inputs, gates, pattern, table, flip, figure, usedPins, outputWords, sourceWord}
-use Rattle.words.specs.Rules.{Sound}
-use Rattle.words.specs.Work.{gateFigure, workGate, productFrom, reliabilityNow}
-use Rattle.words.proofs.Frame.{SameFrame, same-inputs, same-table, same-used-pins, same-output-words, same-work-gate, work-gate-other}
-use Rattle.words.proofs.Sound.{used-pin-below, output-below}
+use Rattle.area.specs.Layout.{inputs, gates, pattern, table, flip, figureIndex, figure, usedPins, outputWords, sourceWord}
+use Rattle.area.specs.Rules.{Sound}
+use Rattle.work.specs.Work.{gateFigure, workGate, reliabilityNow}
+use Rattle.area.specs.Figures.{productFrom}
+use Rattle.work.proofs.Frame.{SameFrame, same-inputs, same-table, same-used-pins, same-output-words, same-work-gate, work-gate-other}
+use Rattle.work.proofs.Sound.{used-pin-below, output-below}
 
 pub map-same : {B : Type 0} (f h : ℕ → B) (xs : List ℕ) → ((i : ℕ) → i < length xs → f (getD xs i 0) ≡ h (getD xs i 0)) → map f xs ≡ map h xs
 map-same f h [] e = refl
@@ -84,4 +85,4 @@ pub source-work-gate : (ws : List ℕ) (j s : ℕ) → j < gates ws → s ≢ in
 source-work-gate ws j s l other =
     source-same ws (workGate ws j) (same-inputs ws (workGate ws j) (same-work-gate ws j l)) s
     (λ small. ap (λ (q : ℕ). q / 2 ^ s % 2) (work-gate-other ws j 3 (λ e. omega arith)))
-    (λ k e. work-gate-other ws j (8 + 8 * k + 7) (λ q. other (omega arith)))
+    (λ k e. work-gate-other ws j (figureIndex k) (λ q. other (omega arith)))

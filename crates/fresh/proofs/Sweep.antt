@@ -11,11 +11,11 @@ use lib.ListN.{length, getD, set, length-set}
 use lib.Seq.{getD-set-same, getD-set-other}
 use lib.Dec.{eqb}
 use borrow.Author.Tests.{eqb-false}
-use Rattle.words.specs.Words.{inputs, gates, flip, figure, usedPins, sourceWord}
-use Rattle.words.specs.Rules.{Sound}
-use Rattle.words.specs.Work.{gateFigure, workGate, readsMarked, workIf, markIf, workMarked}
-use Rattle.words.proofs.Frame.{SameFrame, same-inputs, same-gates, same-used-pins, same-trans, same-work-gate, work-gate-other}
-use Rattle.words.proofs.Sound.{used-pin-below, sound-work-gate}
+use Rattle.area.specs.Layout.{mostSources, inputs, gates, flipIndex, flip, figureIndex, figure, usedPins, sourceWord}
+use Rattle.area.specs.Rules.{Sound}
+use Rattle.work.specs.Work.{gateFigure, workGate, readsMarked, workIf, markIf, workMarked}
+use Rattle.work.proofs.Frame.{SameFrame, same-inputs, same-gates, same-used-pins, same-trans, same-work-gate, work-gate-other}
+use Rattle.work.proofs.Sound.{used-pin-below, sound-work-gate}
 use Rattle.fresh.proofs.Sources.{source-gate, gate-figure-same, source-work-gate}
 use Rattle.fresh.proofs.WorkAll.{FreshBelow, fresh-step}
 
@@ -35,7 +35,7 @@ none-marked marks (p ∷ ps) e i l = go (eqb (getD marks p 0) 1) refl e i l (non
 pub record Swept (old ws marks : List ℕ) (j : ℕ) : Type 0 where
   pub same : SameFrame old ws
   pub sound : Sound ws
-  pub room : length marks ≡ 1036
+  pub room : length marks ≡ mostSources
   pub fresh : FreshBelow ws j
   pub figures-kept : (l : ℕ) → j ≤ l → figure ws l ≡ figure old l
   pub flips-kept : (l : ℕ) → j ≤ l → flip ws l ≡ flip old l
@@ -53,8 +53,8 @@ module _ (old : List ℕ) (fresh-old : FreshBelow old (gates old)) where
         sound = sound-work-gate ws j (before .sound) small;
         room = length-set marks (inputs ws + j) 1 ∙ before .room;
         fresh = fresh-step ws j (before .sound) small (before .fresh);
-        figures-kept = λ k from. work-gate-other ws j (8 + 8 * k + 7) (λ e. omega arith) ∙ before .figures-kept k (omega arith);
-        flips-kept = λ k from. work-gate-other ws j (8 + 8 * k + 6) (λ e. omega arith) ∙ before .flips-kept k (omega arith);
+        figures-kept = λ k from. work-gate-other ws j (figureIndex k) (λ e. omega arith) ∙ before .figures-kept k (omega arith);
+        flips-kept = λ k from. work-gate-other ws j (flipIndex k) (λ e. omega arith) ∙ before .flips-kept k (omega arith);
         unmarked =
             λ s below clear.
             let other : s ≢ inputs ws + j

@@ -10,13 +10,14 @@ use native.Mathlib.Omega.{arith}
 use lib.ListN.{length, getD, set, take, drop}
 use lib.Seq.{getD-set-same, getD-set-other, getD-take, getD-drop, ext-getD}
 use Rattle.rounding.specs.Rounding.{unitsInOne}
-use Rattle.words.specs.Words.{inputs, gates, outputs, pattern, reliabilityWord, pinCount, table, pins, flip, figure, outputWords, needed, sourceWord}
-use Rattle.words.specs.Rules.{Sound}
-use Rattle.words.specs.Work.{workAll, invertBit, toggleWords, setWords}
-use Rattle.words.proofs.Frame.{FrameWord, SameFrame, head-frame, gate-frame, past-frame, same-inputs, same-gates, same-sym, same-trans}
-use Rattle.words.proofs.Frame.{same-work-all, same-store-pattern, same-store-flip, same-toggle, same-set, work-all-other}
-use Rattle.words.proofs.Pattern.{invert-fits}
-use Rattle.words.proofs.Sound.{sound-work-all, sound-store-pattern, sound-store-flip, sound-toggle, sound-set}
+use Rattle.area.specs.Layout.{inputs, gates, outputs, patternIndex, pattern, reliabilityIndex, reliabilityWord, gateIndex, pinCount, table, pinsIndex, pins}
+use Rattle.area.specs.Layout.{flipIndex, flip, figureIndex, figure, outputsIndex, outputWords, needed, sourceWord}
+use Rattle.area.specs.Rules.{Sound}
+use Rattle.work.specs.Work.{workAll, invertBit, toggleWords, setWords}
+use Rattle.work.proofs.Frame.{FrameWord, SameFrame, head-frame, gate-frame, past-frame, same-inputs, same-gates, same-sym, same-trans}
+use Rattle.work.proofs.Frame.{same-work-all, same-store-pattern, same-store-flip, same-toggle, same-set, work-all-other}
+use Rattle.work.proofs.Pattern.{invert-fits}
+use Rattle.work.proofs.Sound.{sound-work-all, sound-store-pattern, sound-store-flip, sound-toggle, sound-set}
 use Rattle.fresh.specs.Fresh.{Fresh}
 use Rattle.fresh.proofs.Sources.{source-same, gate-figure-earlier, reliability-same}
 use Rattle.fresh.proofs.WorkAll.{work-all-fresh}
@@ -34,13 +35,13 @@ eight-cases C a b c d e f g h (suc (suc (suc (suc (suc (suc (suc zero))))))) l =
 eight-cases C a b c d e f g h (suc (suc (suc (suc (suc (suc (suc (suc r)))))))) l = absurd (omega arith)
 
 -- a word is of the head, of a gate, or past the gates
-word-cases : (C : ℕ → Type 0) (g : ℕ) → ((i : ℕ) → i < 8 → C i) → ((j r : ℕ) → j < g → r < 8 → C (8 + 8 * j + r))
-    → ((i : ℕ) → 8 + 8 * g ≤ i → C i) → (i : ℕ) → C i
+word-cases : (C : ℕ → Type 0) (g : ℕ) → ((i : ℕ) → i < 8 → C i) → ((j r : ℕ) → j < g → r < 8 → C (gateIndex j + r))
+    → ((i : ℕ) → gateIndex g ≤ i → C i) → (i : ℕ) → C i
 word-cases C g head gate past i =
     by-cases (decLt i 8) (head i) (λ no.
-    by-cases (decLt i (8 + 8 * g))
+    by-cases (decLt i (gateIndex g))
     (λ l.
-    let at : 8 + 8 * ((i - 8) / 8) + (i - 8) % 8 ≡ i = omega arith in
+    let at : gateIndex ((i - 8) / 8) + (i - 8) % 8 ≡ i = omega arith in
     subst C at (gate ((i - 8) / 8) ((i - 8) % 8) (omega arith) (omega arith)))
     (λ l. past i (omega arith)))
 
@@ -69,7 +70,7 @@ module _ (ws vs : List ℕ) (sound : Sound ws) (fresh-ws : Fresh ws) (fresh-vs :
   pub areas-equal : vs ≡ ws
   areas-equal =
       let frame : (i : ℕ) → FrameWord (gates ws) i → getD vs i 0 ≡ getD ws i 0 = same .kept in
-      let head : (i : ℕ) → i ≢ 3 → i ≢ 4 → i < 8 → getD vs i 0 ≡ getD ws i 0
+      let head : (i : ℕ) → i ≢ patternIndex → i ≢ reliabilityIndex → i < 8 → getD vs i 0 ≡ getD ws i 0
       = λ i three four l. frame i (head-frame (gates ws) i l three four) in
       ext-getD 0 vs ws (same .size)
       (λ i l.
@@ -85,13 +86,13 @@ module _ (ws vs : List ℕ) (sound : Sound ws) (fresh-ws : Fresh ws) (fresh-vs :
       (head 7 (λ e. omega arith) (λ e. omega arith) (omega arith)))
       (λ j r inside small.
       by-cases (decLt r 6)
-      (λ low. frame (8 + 8 * j + r) (gate-frame (gates ws) j r low))
+      (λ low. frame (gateIndex j + r) (gate-frame (gates ws) j r low))
       (λ no.
       by-cases (ℕ-discrete r 6)
-      (λ e. subst (λ (t : ℕ). getD vs (8 + 8 * j + t) 0 ≡ getD ws (8 + 8 * j + t) 0) (sym e) (flips-same j inside))
+      (λ e. subst (λ (t : ℕ). getD vs (gateIndex j + t) 0 ≡ getD ws (gateIndex j + t) 0) (sym e) (flips-same j inside))
       (λ other.
       let last : 7 ≡ r = omega arith in
-      subst (λ (t : ℕ). getD vs (8 + 8 * j + t) 0 ≡ getD ws (8 + 8 * j + t) 0) last (figures-unique j inside))))
+      subst (λ (t : ℕ). getD vs (gateIndex j + t) 0 ≡ getD ws (gateIndex j + t) 0) last (figures-unique j inside))))
       (λ k past. frame k (past-frame (gates ws) k past))
       i)
 
@@ -127,14 +128,14 @@ held-frame ws vs sound-ws sound-vs held =
           (λ w. sound-vs .reserved .1 ∙ sym (sound-ws .reserved .1))
           (λ w. sound-vs .reserved .2 ∙ sym (sound-ws .reserved .2)))
           (λ j r inside small.
-          let pin : (t : ℕ) → t < 4 → getD vs (8 + 8 * j + 2 + t) 0 ≡ getD ws (8 + 8 * j + 2 + t) 0
+          let pin : (t : ℕ) → t < 4 → getD vs (pinsIndex j + t) 0 ≡ getD ws (pinsIndex j + t) 0
           = λ t l.
-          part-word vs (8 + 8 * j + 2) 4 t l
+          part-word vs (pinsIndex j) 4 t l
           ∙ ap (λ (ps : List ℕ). getD ps t 0) (held .gate-pins j inside)
-          ∙ sym (part-word ws (8 + 8 * j + 2) 4 t l) in
+          ∙ sym (part-word ws (pinsIndex j) 4 t l) in
           let Same : ℕ → Type 0 = λ k. getD vs k 0 ≡ getD ws k 0 in
-          eight-cases (λ (t : ℕ). FrameWord (gates ws) (8 + 8 * j + t) → getD vs (8 + 8 * j + t) 0 ≡ getD ws (8 + 8 * j + t) 0)
-          (λ w. subst Same (sym (add-zero (8 + 8 * j))) (held .pin-counts j inside))
+          eight-cases (λ (t : ℕ). FrameWord (gates ws) (gateIndex j + t) → getD vs (gateIndex j + t) 0 ≡ getD ws (gateIndex j + t) 0)
+          (λ w. subst Same (sym (add-zero (gateIndex j))) (held .pin-counts j inside))
           (λ w. held .tables j inside)
           (λ w. subst Same (omega arith) (pin 0 (omega arith)))
           (λ w. subst Same (omega arith) (pin 1 (omega arith)))
@@ -147,14 +148,14 @@ held-frame ws vs sound-ws sound-vs held =
           (λ k from w.
           by-cases (decLt k (needed (gates ws) (outputs ws)))
           (λ l.
-          let at : 8 + 8 * gates ws + (k - (8 + 8 * gates ws)) ≡ k = omega arith in
-          let t = k - (8 + 8 * gates ws) in
+          let at : outputsIndex (gates ws) + (k - (outputsIndex (gates ws))) ≡ k = omega arith in
+          let t = k - (outputsIndex (gates ws)) in
           let low : t < outputs ws = omega arith in
           subst (λ (x : ℕ). getD vs x 0 ≡ getD ws x 0) at
-          (part-word vs (8 + 8 * gates ws) (outputs ws) t low
+          (part-word vs (outputsIndex (gates ws)) (outputs ws) t low
           ∙ ap (λ (x : List ℕ). getD x t 0)
-          (sym (ap₂ (λ (x y : ℕ). take x (drop (8 + 8 * y) vs)) (held .output-count) (held .gate-count)) ∙ held .output-sources)
-          ∙ sym (part-word ws (8 + 8 * gates ws) (outputs ws) t low)))
+          (sym (ap₂ (λ (x y : ℕ). take x (drop (gateIndex y) vs)) (held .output-count) (held .gate-count)) ∙ held .output-sources)
+          ∙ sym (part-word ws (outputsIndex (gates ws)) (outputs ws) t low)))
           (λ no. held .past k (omega arith)))
           i;
     }
@@ -170,55 +171,55 @@ pub fresh-fixed : (ws : List ℕ) → Sound ws → Fresh ws → workAll ws ≡ w
 fresh-fixed ws sound fresh =
     areas-equal ws (workAll ws) sound fresh (work-all-fresh ws sound) (same-work-all ws)
     (work-all-other ws 3 (λ e. omega arith) (λ j from to e. omega arith))
-    (λ j l. work-all-other ws (8 + 8 * j + 6) (λ e. omega arith) (λ k from to e. omega arith))
+    (λ j l. work-all-other ws (flipIndex j) (λ e. omega arith) (λ k from to e. omega arith))
 
 -- what an area is worked out to does not depend on the figures that it held
 pub work-all-same : (ws vs : List ℕ) → Sound ws → Sound vs → SameFrame ws vs → pattern vs ≡ pattern ws → ((j : ℕ) → j < gates ws → flip vs j ≡ flip ws j)
     → workAll vs ≡ workAll ws
 work-all-same ws vs sound-ws sound-vs same q flips =
-    let kept : (us : List ℕ) (i : ℕ) → i ≢ 4 → ((j : ℕ) → i ≢ 8 + 8 * j + 7) → getD (workAll us) i 0 ≡ getD us i 0
+    let kept : (us : List ℕ) (i : ℕ) → i ≢ reliabilityIndex → ((j : ℕ) → i ≢ figureIndex j) → getD (workAll us) i 0 ≡ getD us i 0
     = λ us i four none. work-all-other us i four (λ j from to. none j) in
     areas-equal (workAll ws) (workAll vs) (sound-work-all ws sound-ws) (work-all-fresh ws sound-ws) (work-all-fresh vs sound-vs)
     (same-trans (workAll ws) ws (workAll vs) (same-sym ws (workAll ws) (same-work-all ws)) (same-trans ws vs (workAll vs) same (same-work-all vs)))
     (kept vs 3 (λ e. omega arith) (λ j e. omega arith) ∙ q ∙ sym (kept ws 3 (λ e. omega arith) (λ j e. omega arith)))
     (λ j l.
-    kept vs (8 + 8 * j + 6) (λ e. omega arith) (λ k e. omega arith)
+    kept vs (flipIndex j) (λ e. omega arith) (λ k e. omega arith)
     ∙ flips j (omega (arith, same-gates ws (workAll ws) (same-work-all ws)))
-    ∙ sym (kept ws (8 + 8 * j + 6) (λ e. omega arith) (λ k e. omega arith)))
+    ∙ sym (kept ws (flipIndex j) (λ e. omega arith) (λ k e. omega arith)))
 
 -- a fresh area that has the frame, pattern and flips of another is what that one is worked out to
 pub fresh-is-afresh : (ws vs : List ℕ) → Sound ws → Sound vs → Fresh vs → SameFrame ws vs → pattern vs ≡ pattern ws
     → ((j : ℕ) → j < gates ws → flip vs j ≡ flip ws j) → vs ≡ workAll ws
 fresh-is-afresh ws vs sound-ws sound-vs fresh same q flips = sym (fresh-fixed vs sound-vs fresh) ∙ work-all-same ws vs sound-ws sound-vs same q flips
 
-pub toggle-is-afresh : (ws : List ℕ) (i : ℕ) → Sound ws → Fresh ws → i < inputs ws → toggleWords ws i ≡ workAll (set ws 3 (invertBit (pattern ws) i))
+pub toggle-is-afresh : (ws : List ℕ) (i : ℕ) → Sound ws → Fresh ws → i < inputs ws → toggleWords ws i ≡ workAll (set ws patternIndex (invertBit (pattern ws) i))
 toggle-is-afresh ws i sound fresh l =
     let q = invertBit (pattern ws) i in
-    let stored = set ws 3 q in
+    let stored = set ws patternIndex q in
     let store = same-store-pattern ws q in
     fresh-is-afresh stored (toggleWords ws i)
     (sound-store-pattern ws q sound (invert-fits (pattern ws) i (inputs ws) l (sound .pattern-fits)))
     (sound-toggle ws i sound l)
     (toggle-fresh ws i sound fresh l)
     (same-trans stored ws (toggleWords ws i) (same-sym ws stored store) (same-toggle ws i))
-    (toggle-pattern ws i sound ∙ sym (getD-set-same ws 3 q 0 (omega (arith, sound .long))))
-    (λ j inside. toggle-flip ws i j ∙ sym (getD-set-other ws 3 (8 + 8 * j + 6) q 0 (λ e. omega arith)))
+    (toggle-pattern ws i sound ∙ sym (getD-set-same ws patternIndex q 0 (omega (arith, sound .long))))
+    (λ j inside. toggle-flip ws i j ∙ sym (getD-set-other ws patternIndex (flipIndex j) q 0 (λ e. omega arith)))
 
 pub set-is-afresh : (ws : List ℕ) (g units : ℕ) → Sound ws → Fresh ws → g < gates ws → units ≤ unitsInOne
-    → setWords ws g units ≡ workAll (set ws (8 + 8 * g + 6) units)
+    → setWords ws g units ≡ workAll (set ws (flipIndex g) units)
 set-is-afresh ws g units sound fresh l fits =
-    let stored = set ws (8 + 8 * g + 6) units in
+    let stored = set ws (flipIndex g) units in
     let store = same-store-flip ws g units l in
     fresh-is-afresh stored (setWords ws g units)
     (sound-store-flip ws g units sound l fits)
     (sound-set ws g units sound l fits)
     (set-fresh ws g units l sound fresh fits)
     (same-trans stored ws (setWords ws g units) (same-sym ws stored store) (same-set ws g units l))
-    (set-pattern ws g units l ∙ sym (getD-set-other ws (8 + 8 * g + 6) 3 units 0 (λ e. omega arith)))
+    (set-pattern ws g units l ∙ sym (getD-set-other ws (flipIndex g) 3 units 0 (λ e. omega arith)))
     (λ j inside.
     by-cases (ℕ-discrete j g)
     (λ e.
     subst (λ (t : ℕ). flip (setWords ws g units) t ≡ flip stored t) (sym e)
-    (set-flip ws g units l sound ∙ sym (getD-set-same ws (8 + 8 * g + 6) units 0 (omega (arith, sound .long)))))
+    (set-flip ws g units l sound ∙ sym (getD-set-same ws (flipIndex g) units 0 (omega (arith, sound .long)))))
     (λ other.
-    set-flip-other ws g units l j other ∙ sym (getD-set-other ws (8 + 8 * g + 6) (8 + 8 * j + 6) units 0 (λ e. other (omega arith)))))
+    set-flip-other ws g units l j other ∙ sym (getD-set-other ws (flipIndex g) (flipIndex j) units 0 (λ e. other (omega arith)))))

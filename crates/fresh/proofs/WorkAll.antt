@@ -5,11 +5,11 @@ use mathlib.Core.Logic.{⊎-elim}
 use mathlib.Core.Path.{_≡_, sym, ap, _∙_}
 use native.Mathlib.Nat.{eq-or-lt-of-le, le-of-suc-le-suc}
 use native.Mathlib.Omega.{arith}
-use Rattle.words.specs.Words.{gates, figure, sourceWord}
-use Rattle.words.specs.Rules.{Sound}
-use Rattle.words.specs.Work.{gateFigure, workGate, workGates, workReliability, workAll}
-use Rattle.words.proofs.Frame.{same-inputs, same-gates, same-work-gate, same-work-gates, same-work-reliability, work-gate-same, work-gate-other, work-reliability-same, work-reliability-other}
-use Rattle.words.proofs.Sound.{sound-work-gate, sound-work-gates}
+use Rattle.area.specs.Layout.{gates, flipIndex, figureIndex, figure, sourceWord}
+use Rattle.area.specs.Rules.{Sound}
+use Rattle.work.specs.Work.{gateFigure, workGate, workGates, workReliability, workAll}
+use Rattle.work.proofs.Frame.{same-inputs, same-gates, same-work-gate, same-work-gates, same-work-reliability, work-gate-same, work-gate-other, work-reliability-same, work-reliability-other}
+use Rattle.work.proofs.Sound.{sound-work-gate, sound-work-gates}
 use Rattle.fresh.specs.Fresh.{Fresh}
 use Rattle.fresh.proofs.Sources.{source-same, gate-figure-earlier, reliability-same, source-work-gate}
 
@@ -22,11 +22,11 @@ pub fresh-step : (ws : List ℕ) (j : ℕ) → Sound ws → j < gates ws → Fre
 fresh-step ws j sound small fresh l k =
     let kept : gateFigure (workGate ws j) l ≡ gateFigure ws l
     = gate-figure-earlier ws (workGate ws j) sound (same-work-gate ws j small) l (omega arith)
-    (work-gate-other ws j (8 + 8 * l + 6) (λ e. omega arith))
+    (work-gate-other ws j (flipIndex l) (λ e. omega arith))
     (λ s below. source-work-gate ws j s small (λ e. omega arith)) in
     ⊎-elim
     (λ e. ap (figure (workGate ws j)) e ∙ work-gate-same ws j (omega (arith, sound .long)) ∙ ap (gateFigure ws) (sym e) ∙ sym kept)
-    (λ less. work-gate-other ws j (8 + 8 * l + 7) (λ e. omega arith) ∙ fresh l less ∙ sym kept)
+    (λ less. work-gate-other ws j (figureIndex l) (λ e. omega arith) ∙ fresh l less ∙ sym kept)
     (eq-or-lt-of-le (le-of-suc-le-suc k))
 
 pub fresh-gates : (ws : List ℕ) (j k : ℕ) → Sound ws → j + k ≤ gates ws → FreshBelow ws j → FreshBelow (workGates ws j k) (j + k)
@@ -43,7 +43,7 @@ pub source-reliability : (ws : List ℕ) (s : ℕ) → sourceWord (workReliabili
 source-reliability ws s =
     source-same ws (workReliability ws) (same-inputs ws (workReliability ws) (same-work-reliability ws)) s
     (λ small. ap (λ (q : ℕ). q / 2 ^ s % 2) (work-reliability-other ws 3 (λ e. omega arith)))
-    (λ k e. work-reliability-other ws (8 + 8 * k + 7) (λ q. omega arith))
+    (λ k e. work-reliability-other ws (figureIndex k) (λ q. omega arith))
 
 -- so once all gates are fresh, the reliability makes the area fresh
 pub fresh-reliability : (ws : List ℕ) → Sound ws → FreshBelow ws (gates ws) → Fresh (workReliability ws)
@@ -54,9 +54,9 @@ fresh-reliability ws sound fresh =
       figures =
           λ j l.
           let small : j < gates ws = omega (arith, same-gates ws after same) in
-          work-reliability-other ws (8 + 8 * j + 7) (λ e. omega arith)
+          work-reliability-other ws (figureIndex j) (λ e. omega arith)
           ∙ fresh j small
-          ∙ sym (gate-figure-earlier ws after sound same j small (work-reliability-other ws (8 + 8 * j + 6) (λ e. omega arith)) (λ s k. source-reliability ws s));
+          ∙ sym (gate-figure-earlier ws after sound same j small (work-reliability-other ws (flipIndex j) (λ e. omega arith)) (λ s k. source-reliability ws s));
       product =
           work-reliability-same ws (omega (arith, sound .long))
           ∙ sym (reliability-same ws after sound same (λ s k. source-reliability ws s));

@@ -5,8 +5,8 @@ use mathlib.Core.List.{List}
 use mathlib.Core.Path.{_≡_}
 use lib.ListN.{getD}
 use Rattle.rounding.specs.Rounding.{unitsInOne, toUnits}
-use Rattle.words.specs.Words.{inputs, gates, reliabilityWord, flip, figure, usedPins}
-use Rattle.words.specs.Work.{gateFigure, reliabilityNow, readsMarked, workIf, markIf}
+use Rattle.area.specs.Layout.{inputs, gates, reliabilityWord, flip, figure, usedPins}
+use Rattle.work.specs.Work.{gateFigure, reliabilityNow, readsMarked, workIf, markIf}
 
 -- every gate's figure word, and word 4, are what the rule makes of the words held
 pub record Fresh (ws : List ℕ) : Type 0 where

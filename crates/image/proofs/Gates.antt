@@ -7,9 +7,9 @@ use lib.ListN.{getD}
 use Rattle.rounding.specs.Rounding.{unitsInOne, toUnits}
 use Rattle.chance.specs.Number.{chanceScale}
 use Rattle.chance.specs.Flip.{flipAccepted, flipChance}
-use Rattle.words.specs.Rules.{gateShape, usedBelow}
+use Rattle.area.specs.Rules.{gateShape, usedBelow}
 use Rattle.image.specs.declared.Gate.{Gate}
-use Rattle.image.specs.Judgement.{fine, refusal}
+use Rattle.refusal.specs.declared.Judgement.the-variants.{Fine, Refused}
 use Rattle.image.specs.Image.{recordCount, recordKind, recordTable, recordPins, recordField}
 use Rattle.image.specs.Refusals.{gateRefusal}
 use Rattle.image.specs.Loading.{recordChance, recordUnits, gateWords}
@@ -17,22 +17,22 @@ use Rattle.image.specs.Record.{gateRecord}
 
 module _ (m : List ℕ) (n j : ℕ) where
   -- 5, 6, 7 from the three tests
-  pub gate-5 : gateShape (recordCount m j) (recordTable m j) (recordPins m j) ≡ false → gateRefusal m n j ≡ refusal 5 j
+  pub gate-5 : gateShape (recordCount m j) (recordTable m j) (recordPins m j) ≡ false → gateRefusal m n j ≡ Refused 5 j
   unfolding gateRefusal
   gate-5 e = simp e
 
   pub gate-6 : gateShape (recordCount m j) (recordTable m j) (recordPins m j) ≡ true → usedBelow (n + j) (recordCount m j) (recordPins m j) ≡ false
-      → gateRefusal m n j ≡ refusal 6 j
+      → gateRefusal m n j ≡ Refused 6 j
   unfolding gateRefusal
   gate-6 e f = simp (e, f)
 
   pub gate-7 : gateShape (recordCount m j) (recordTable m j) (recordPins m j) ≡ true → usedBelow (n + j) (recordCount m j) (recordPins m j) ≡ true
-      → flipAccepted (recordKind m j) (recordField m j) ≡ false → gateRefusal m n j ≡ refusal 7 j
+      → flipAccepted (recordKind m j) (recordField m j) ≡ false → gateRefusal m n j ≡ Refused 7 j
   unfolding gateRefusal
   gate-7 e f h = simp (e, f, h)
 
   pub gate-fine : gateShape (recordCount m j) (recordTable m j) (recordPins m j) ≡ true → usedBelow (n + j) (recordCount m j) (recordPins m j) ≡ true
-      → flipAccepted (recordKind m j) (recordField m j) ≡ true → gateRefusal m n j ≡ fine
+      → flipAccepted (recordKind m j) (recordField m j) ≡ true → gateRefusal m n j ≡ Fine
   unfolding gateRefusal
   gate-fine e f h = simp (e, f, h)
 

@@ -7,7 +7,7 @@ use native.Mathlib.Nat.{not-suc-le-zero, eq-or-lt-of-le}
 use native.Mathlib.Omega.{arith}
 use lib.ListN.{length, getD, drop, List·getD-append}
 use lib.Seq.{drop-at, getD-at}
-use Rattle.image.specs.Judgement.{joined}
+use Rattle.lists.specs.Lists.{joined}
 use Rattle.image.proofs.Sets.{length-joined}
 
 -- lists of one length: from the start of place j on stands its own, then a rest

@@ -13,14 +13,16 @@ use Rattle.rounding.specs.Rounding.{unitsInOne, toUnits}
 use Rattle.chance.specs.Number.{chanceScale}
 use Rattle.chance.specs.Flip.{flipAccepted}
 use Rattle.chance.proofs.Laws.{flip-chance-at-most, flip-units-at-most}
-use Rattle.words.specs.Words.{inputs, pinCount, table, pins, flip, figure, outputWords}
-use Rattle.words.specs.Rules.{gateShape, usedBelow, GateSound, Sound}
+use Rattle.area.specs.Layout.{inputs, gateIndex, pinCount, table, pins, flipIndex, flip, figureIndex, figure, outputWords}
+use Rattle.area.specs.Rules.{gateShape, usedBelow, GateSound, Sound}
 use Rattle.rules.proofs.Facts.{shape-holds, used-holds}
-use Rattle.image.specs.Judgement.{fine, demand, lowest, joined}
+use Rattle.refusal.specs.declared.Judgement.the-variants.{Fine}
+use Rattle.refusal.specs.Judgement.{refuseUnless, lowest}
+use Rattle.lists.specs.Lists.{joined}
 use Rattle.image.specs.Image.{imageInputs, imageGates, imageOutputs, middle, recordCount, recordKind, recordTable, recordPins, recordField, outputAt}
 use Rattle.image.specs.Refusals.{trailerRefusal, gateRefusal, outputRefusal, middleRefusal, imageRefusal}
 use Rattle.image.specs.Loading.{recordChance, recordUnits, headWords, gateWords, outputWord, middleWords, imageWords, imageKinds, imageChances}
-use Rattle.image.proofs.Judged.{demand-fine, otherwise-fine, lowest-fine}
+use Rattle.refusal.proofs.Laws.{unless-fine, otherwise-fine, lowest-fine}
 use Rattle.image.proofs.Trailer.{trailer-right}
 use Rattle.image.proofs.Middle.{length-gates, length-outputs, length-middle}
 use Rattle.image.proofs.Joined.{drop-joined, length-listed, listed-at}
@@ -32,15 +34,15 @@ pub record GateRight (m : List ℕ) (n j : ℕ) : Type 0 where
   pub used : usedBelow (n + j) (recordCount m j) (recordPins m j) ≡ true
   pub accepted : flipAccepted (recordKind m j) (recordField m j) ≡ true
 
-pub gate-right : (m : List ℕ) (n j : ℕ) → gateRefusal m n j ≡ fine → GateRight m n j
+pub gate-right : (m : List ℕ) (n j : ℕ) → gateRefusal m n j ≡ Fine → GateRight m n j
 unfolding gateRefusal
 gate-right m n j e =
-    let five = otherwise-fine (demand (gateShape (recordCount m j) (recordTable m j) (recordPins m j)) 5 j) _ e in
-    let six = otherwise-fine (demand (usedBelow (n + j) (recordCount m j) (recordPins m j)) 6 j) _ (five .1) in
+    let five = otherwise-fine (refuseUnless (gateShape (recordCount m j) (recordTable m j) (recordPins m j)) 5 j) _ e in
+    let six = otherwise-fine (refuseUnless (usedBelow (n + j) (recordCount m j) (recordPins m j)) 6 j) _ (five .1) in
     record {
-      shape = demand-fine _ 5 j (five .0);
-      used = demand-fine _ 6 j (six .0);
-      accepted = demand-fine _ 7 j (six .1);
+      shape = unless-fine _ 5 j (five .0);
+      used = unless-fine _ 6 j (six .0);
+      accepted = unless-fine _ 7 j (six .1);
     }
 
 pub chance-fits : (m : List ℕ) (n j : ℕ) → GateRight m n j → recordChance m j ≤ chanceScale
@@ -52,19 +54,19 @@ unfolding recordUnits recordChance
 units-fit m n j r = flip-units-at-most (recordKind m j) (recordField m j) (r .accepted)
 
 -- a gate whose eight words stand in an area
-module _ (ws m tail : List ℕ) (n j : ℕ) (at : drop (8 + 8 * j) ws ≡ gateWords m j ++ tail) where
-  pub word-at : (p i : ℕ) → p ≡ 8 + 8 * j + i → getD ws p 0 ≡ getD (gateWords m j ++ tail) i 0
-  word-at p i e = ap (λ (q : ℕ). getD ws q 0) e ∙ sym (getD-drop (8 + 8 * j) ws i 0) ∙ ap (λ (l : List ℕ). getD l i 0) at
+module _ (ws m tail : List ℕ) (n j : ℕ) (at : drop (gateIndex j) ws ≡ gateWords m j ++ tail) where
+  pub word-at : (p i : ℕ) → p ≡ gateIndex j + i → getD ws p 0 ≡ getD (gateWords m j ++ tail) i 0
+  word-at p i e = ap (λ (q : ℕ). getD ws q 0) e ∙ sym (getD-drop (gateIndex j) ws i 0) ∙ ap (λ (l : List ℕ). getD l i 0) at
 
   pub pins-at : pins ws j ≡ recordPins m j
-  pins-at = ap (take 4) (sym (drop-drop 2 (8 + 8 * j) ws)) ∙ ap (λ (l : List ℕ). take 4 (drop 2 l)) at
+  pins-at = ap (take 4) (sym (drop-drop 2 (gateIndex j) ws)) ∙ ap (λ (l : List ℕ). take 4 (drop 2 l)) at
 
   pub gate-sound : inputs ws ≡ n → GateRight m n j → GateSound ws j
   gate-sound en r =
-      let count : pinCount ws j ≡ recordCount m j = word-at (8 + 8 * j) 0 (omega arith) in
-      let bits : table ws j ≡ recordTable m j = word-at (8 + 8 * j + 1) 1 refl in
-      let units : flip ws j ≡ recordUnits m j = word-at (8 + 8 * j + 6) 6 refl in
-      let none : figure ws j ≡ 0 = word-at (8 + 8 * j + 7) 7 refl in
+      let count : pinCount ws j ≡ recordCount m j = word-at (gateIndex j) 0 (omega arith) in
+      let bits : table ws j ≡ recordTable m j = word-at (gateIndex j + 1) 1 refl in
+      let units : flip ws j ≡ recordUnits m j = word-at (flipIndex j) 6 refl in
+      let none : figure ws j ≡ 0 = word-at (figureIndex j) 7 refl in
       let s = shape-holds (recordCount m j) (recordTable m j) (recordPins m j) (r .shape) in
       record {
         pin-count = rw count (s .pin-count);
@@ -105,19 +107,19 @@ module _ (m rest : List ℕ) (n g k : ℕ) where
       ap (take k) (after-head (8 * g) ∙ drop-at (joined (gateWords m) g) (joined (outputWord m g) k ++ rest) (8 * g) (length-gates m n g k))
       ∙ take-at (joined (outputWord m g) k) rest k (length-outputs m n g k)
 
-  output-below : lowest (outputRefusal m n g) k ≡ fine → (o : ℕ) → o < k → getD (outputWords area) o 0 < n + g
+  output-below : lowest (outputRefusal m n g) k ≡ Fine → (o : ℕ) → o < k → getD (outputWords area) o 0 < n + g
   unfolding outputRefusal
   output-below e o l =
       rw (outputs-at, listed-at (outputAt m g) k o l)
-      (ltb-true (outputAt m g o) (n + g) (demand-fine (ltb (outputAt m g o) (n + g)) 8 o (lowest-fine (outputRefusal m n g) k o l e)))
+      (ltb-true (outputAt m g o) (n + g) (unless-fine (ltb (outputAt m g o) (n + g)) 8 o (lowest-fine (outputRefusal m n g) k o l e)))
 
-  gate-in : lowest (gateRefusal m n) g ≡ fine → (j : ℕ) → j < g → GateSound area j
+  gate-in : lowest (gateRefusal m n) g ≡ Fine → (j : ℕ) → j < g → GateSound area j
   unfolding area behind middleWords
   gate-in e j l =
       let d = drop-joined (gateWords m) 8 (λ i. refl) g j l (joined (outputWord m g) k ++ rest) in
       gate-sound area m (d .0) n j (after-head (8 * j) ∙ d .1) refl (gate-right m n j (lowest-fine (gateRefusal m n) g j l e))
 
-  middle-sound : n ≤ 12 → g ≤ 1024 → 1 ≤ k → k ≤ 64 → lowest (gateRefusal m n) g ≡ fine → lowest (outputRefusal m n g) k ≡ fine → Sound area
+  middle-sound : n ≤ 12 → g ≤ 1024 → 1 ≤ k → k ≤ 64 → lowest (gateRefusal m n) g ≡ Fine → lowest (outputRefusal m n g) k ≡ Fine → Sound area
   unfolding area middleWords
   middle-sound hn hg h1 hk gs os =
       let long = length-append (middleWords m n g k) rest in
@@ -137,9 +139,9 @@ module _ (m rest : List ℕ) (n g k : ℕ) where
 
 -- ---- an image
 
-parts : (bs : List ℕ) → imageRefusal bs ≡ fine
-    → (trailerRefusal bs ≡ fine) × (lowest (gateRefusal (middle bs) (imageInputs bs)) (imageGates bs) ≡ fine)
-    × (lowest (outputRefusal (middle bs) (imageInputs bs) (imageGates bs)) (imageOutputs bs) ≡ fine)
+parts : (bs : List ℕ) → imageRefusal bs ≡ Fine
+    → (trailerRefusal bs ≡ Fine) × (lowest (gateRefusal (middle bs) (imageInputs bs)) (imageGates bs) ≡ Fine)
+    × (lowest (outputRefusal (middle bs) (imageInputs bs) (imageGates bs)) (imageOutputs bs) ≡ Fine)
 unfolding imageRefusal middleRefusal
 parts bs e =
     let m = middle bs in
@@ -151,7 +153,7 @@ parts bs e =
     (whole .0, inner .0, inner .1)
 
 -- the words of an image that is not refused are those of a sound area, whatever follows them
-pub loaded-sound : (bs rest : List ℕ) → imageRefusal bs ≡ fine → Sound (imageWords bs ++ rest)
+pub loaded-sound : (bs rest : List ℕ) → imageRefusal bs ≡ Fine → Sound (imageWords bs ++ rest)
 unfolding imageWords area
 loaded-sound bs rest e =
     let p = parts bs e in
@@ -159,7 +161,7 @@ loaded-sound bs rest e =
     middle-sound (middle bs) rest (imageInputs bs) (imageGates bs) (imageOutputs bs) (t .inputs-fit) (t .gates-fit) (t .some-output) (t .outputs-fit) (p .1) (p .2)
 
 -- each gate of such an image keeps rules 5, 6 and 7
-pub loaded-gate : (bs : List ℕ) → imageRefusal bs ≡ fine → (j : ℕ) → j < imageGates bs → GateRight (middle bs) (imageInputs bs) j
+pub loaded-gate : (bs : List ℕ) → imageRefusal bs ≡ Fine → (j : ℕ) → j < imageGates bs → GateRight (middle bs) (imageInputs bs) j
 loaded-gate bs e j l =
     gate-right (middle bs) (imageInputs bs) j (lowest-fine (gateRefusal (middle bs) (imageInputs bs)) (imageGates bs) j l (parts bs e .1))
 
@@ -181,12 +183,12 @@ unfolding imageChances
 chance-at bs j l = listed-at (recordChance (middle bs)) (imageGates bs) j l
 
 -- each chance is at most 1
-pub chances-fit : (bs : List ℕ) → imageRefusal bs ≡ fine → (j : ℕ) → j < imageGates bs → getD (imageChances bs) j 0 ≤ chanceScale
+pub chances-fit : (bs : List ℕ) → imageRefusal bs ≡ Fine → (j : ℕ) → j < imageGates bs → getD (imageChances bs) j 0 ≤ chanceScale
 chances-fit bs e j l = rw (chance-at bs j l) (chance-fits (middle bs) (imageInputs bs) j (loaded-gate bs e j l))
 
 -- where a gate's words stand, and the outputs
 pub gate-stands : (bs rest : List ℕ) (j : ℕ) → j < imageGates bs
-    → (tail : List ℕ) × (drop (8 + 8 * j) (imageWords bs ++ rest) ≡ gateWords (middle bs) j ++ tail)
+    → (tail : List ℕ) × (drop (gateIndex j) (imageWords bs ++ rest) ≡ gateWords (middle bs) j ++ tail)
 unfolding imageWords area behind
 gate-stands bs rest j l =
     let m = middle bs in
@@ -205,5 +207,5 @@ pub flips-at : (bs rest : List ℕ) (j : ℕ) → j < imageGates bs → flip (im
 unfolding recordUnits
 flips-at bs rest j l =
     let d = gate-stands bs rest j l in
-    word-at (imageWords bs ++ rest) (middle bs) (d .0) (imageInputs bs) j (d .1) (8 + 8 * j + 6) 6 refl
+    word-at (imageWords bs ++ rest) (middle bs) (d .0) (imageInputs bs) j (d .1) (flipIndex j) 6 refl
     ∙ ap (toUnits unitsInOne chanceScale) (sym (chance-at bs j l))

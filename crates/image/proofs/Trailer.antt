@@ -8,35 +8,36 @@ use native.Mathlib.Omega.{arith}
 use lib.ListN.{length, take, drop, length-drop}
 use lib.Seq.{length-take-le}
 use lib.Dec.{leb, eqb}
-use Rattle.words.specs.Rules.{countsInRange}
+use Rattle.area.specs.Rules.{countsInRange}
 use Rattle.rules.proofs.Facts.{both, counts-hold}
-use Rattle.image.specs.Judgement.{fine, demand}
+use Rattle.refusal.specs.declared.Judgement.the-variants.{Fine}
+use Rattle.refusal.specs.Judgement.{refuseUnless}
 use Rattle.image.specs.Image.{trailerAt, imageInputs, imageGates, imageOutputs, imageFormat, imageBack, imageTotal, middle}
 use Rattle.image.specs.Refusals.{lengthRight, backRight, trailerRefusal, TrailerRight}
-use Rattle.image.proofs.Judged.{demand-fine, otherwise-fine}
+use Rattle.refusal.proofs.Laws.{unless-fine, otherwise-fine}
 
 pub length-right : (bs : List ℕ) → 16 ≤ length bs → length bs ≤ 32_768 → imageTotal bs ≡ length bs → lengthRight bs ≡ true
 unfolding lengthRight
 length-right bs low high total = simp (le-leb 16 (length bs) low, le-leb (length bs) 32_768 high, eq-eqb (imageTotal bs) (length bs) total)
 
-pub trailer-right : (bs : List ℕ) → trailerRefusal bs ≡ fine → TrailerRight bs
+pub trailer-right : (bs : List ℕ) → trailerRefusal bs ≡ Fine → TrailerRight bs
 unfolding trailerRefusal lengthRight backRight
 trailer-right bs e =
     let n = imageInputs bs in
     let g = imageGates bs in
     let k = imageOutputs bs in
-    let one = otherwise-fine (demand (lengthRight bs) 1 0) _ e in
-    let two = otherwise-fine (demand (eqb (imageFormat bs) 1) 2 0) _ (one .1) in
-    let three = otherwise-fine (demand (countsInRange n g k) 3 0) (demand (backRight bs) 4 0) (two .1) in
-    let a = both (leb 16 (length bs)) _ (demand-fine (lengthRight bs) 1 0 (one .0)) in
+    let one = otherwise-fine (refuseUnless (lengthRight bs) 1 0) _ e in
+    let two = otherwise-fine (refuseUnless (eqb (imageFormat bs) 1) 2 0) _ (one .1) in
+    let three = otherwise-fine (refuseUnless (countsInRange n g k) 3 0) (refuseUnless (backRight bs) 4 0) (two .1) in
+    let a = both (leb 16 (length bs)) _ (unless-fine (lengthRight bs) 1 0 (one .0)) in
     let b = both (leb (length bs) 32_768) (eqb (imageTotal bs) (length bs)) (a .1) in
-    let counts = counts-hold n g k (demand-fine (countsInRange n g k) 3 0 (three .0)) in
-    let s = both (eqb (imageBack bs) (20 * g + 2 * k)) (leb (imageBack bs) (trailerAt bs)) (demand-fine (backRight bs) 4 0 (three .1)) in
+    let counts = counts-hold n g k (unless-fine (countsInRange n g k) 3 0 (three .0)) in
+    let s = both (eqb (imageBack bs) (20 * g + 2 * k)) (leb (imageBack bs) (trailerAt bs)) (unless-fine (backRight bs) 4 0 (three .1)) in
     record {
       low = leb-true 16 (length bs) (a .0);
       high = leb-true (length bs) 32_768 (b .0);
       total = eqb-true (imageTotal bs) (length bs) (b .1);
-      format = eqb-true (imageFormat bs) 1 (demand-fine (eqb (imageFormat bs) 1) 2 0 (two .0));
+      format = eqb-true (imageFormat bs) 1 (unless-fine (eqb (imageFormat bs) 1) 2 0 (two .0));
       inputs-fit = counts .0;
       gates-fit = counts .1;
       some-output = counts .2;

@@ -4,7 +4,7 @@ use mathlib.Core.List.{List, [], _∷_, _++_}
 use Rattle.rounding.specs.Rounding.{unitsInOne, toUnits}
 use Rattle.chance.specs.Number.{chanceScale}
 use Rattle.chance.specs.Flip.{flipChance}
-use Rattle.image.specs.Judgement.{joined}
+use Rattle.lists.specs.Lists.{joined}
 use Rattle.image.specs.Image.{imageInputs, imageGates, imageOutputs, middle, recordCount, recordKind, recordTable, recordPins, recordField, outputAt}
 
 -- gate j's chance before conversion, and in units

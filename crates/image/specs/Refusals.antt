@@ -6,8 +6,9 @@ use mathlib.Core.List.{List}
 use lib.ListN.{length}
 use lib.Dec.{leb, ltb, eqb}
 use Rattle.chance.specs.Flip.{flipAccepted}
-use Rattle.words.specs.Rules.{gateShape, usedBelow, countsInRange}
-use Rattle.image.specs.Judgement.{Judgement, demand, otherwise, lowest}
+use Rattle.area.specs.Rules.{gateShape, usedBelow, countsInRange}
+use Rattle.refusal.specs.declared.Judgement.{Judgement}
+use Rattle.refusal.specs.Judgement.{refuseUnless, otherwise, lowest}
 use Rattle.image.specs.Image.{trailerAt, imageInputs, imageGates, imageOutputs, imageFormat, imageBack, imageTotal, middle, recordCount, recordKind, recordTable, recordPins, recordField, outputAt}
 
 -- 1: the length from 16 to 32,768, and total the same
@@ -20,9 +21,9 @@ backRight bs = eqb (imageBack bs) (20 * imageGates bs + 2 * imageOutputs bs) && 
 
 unfoldable pub trailerRefusal : List ℕ → Judgement
 trailerRefusal bs =
-    otherwise (demand (lengthRight bs) 1 0)
-    (otherwise (demand (eqb (imageFormat bs) 1) 2 0)
-    (otherwise (demand (countsInRange (imageInputs bs) (imageGates bs) (imageOutputs bs)) 3 0) (demand (backRight bs) 4 0)))
+    otherwise (refuseUnless (lengthRight bs) 1 0)
+    (otherwise (refuseUnless (eqb (imageFormat bs) 1) 2 0)
+    (otherwise (refuseUnless (countsInRange (imageInputs bs) (imageGates bs) (imageOutputs bs)) 3 0) (refuseUnless (backRight bs) 4 0)))
 
 -- what is known of a trailer that passes
 pub record TrailerRight (bs : List ℕ) : Type 0 where
@@ -40,13 +41,13 @@ pub record TrailerRight (bs : List ℕ) : Type 0 where
 -- 5, 6, 7 for gate j of a netlist with n inputs
 unfoldable pub gateRefusal : List ℕ → ℕ → ℕ → Judgement
 gateRefusal m n j =
-    otherwise (demand (gateShape (recordCount m j) (recordTable m j) (recordPins m j)) 5 j)
-    (otherwise (demand (usedBelow (n + j) (recordCount m j) (recordPins m j)) 6 j)
-    (demand (flipAccepted (recordKind m j) (recordField m j)) 7 j))
+    otherwise (refuseUnless (gateShape (recordCount m j) (recordTable m j) (recordPins m j)) 5 j)
+    (otherwise (refuseUnless (usedBelow (n + j) (recordCount m j) (recordPins m j)) 6 j)
+    (refuseUnless (flipAccepted (recordKind m j) (recordField m j)) 7 j))
 
 -- 8 for output k of a netlist with n inputs and g gates
 unfoldable pub outputRefusal : List ℕ → ℕ → ℕ → ℕ → Judgement
-outputRefusal m n g k = demand (ltb (outputAt m g k) (n + g)) 8 k
+outputRefusal m n g k = refuseUnless (ltb (outputAt m g k) (n + g)) 8 k
 
 -- each gate in turn, then each output
 unfoldable pub middleRefusal : List ℕ → ℕ → ℕ → ℕ → Judgement

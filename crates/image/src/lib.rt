@@ -6,7 +6,9 @@ ghost use mathlib.Core.List.{_++_};
 ghost use lib.ListN.{length, drop};
 ghost use lib.Dec.{leb, eqb};
 ghost use lib.Seq.{sets};
-ghost use Rattle.image.specs.Judgement.{fine, loaded, joined, lowest};
+ghost use Rattle.refusal.specs.declared.Judgement.the-variants.{Fine};
+ghost use Rattle.refusal.specs.Judgement.{loaded, lowest};
+ghost use Rattle.lists.specs.Lists.{joined};
 ghost use Rattle.image.specs.Image.{u16At, u32At, imageInputs, imageGates, imageOutputs, middle, recordPins, recordField};
 ghost use Rattle.image.specs.Refusals.{trailerRefusal, TrailerRight, gateRefusal, outputRefusal, middleRefusal, imageRefusal};
 ghost use Rattle.image.specs.Loading.{gateWords, outputWord, middleWords, imageWords};
@@ -282,7 +284,7 @@ fn load_netlist(image: &[u8], words: &mut [u32]) -> Loaded
 pub fn load(image: &[u8], words: &mut [u32]) -> Loaded
     requires { ⌜ 8264 ≤ length (now words) ⌝ }
     ensures { λ r. ⌜ r ≡ loaded (imageRefusal (now (image .entry))) ⌝ }
-    ensures { λ r. ⌜ (imageRefusal (now (image .entry)) ≡ fine → now (words .exit) ≡ imageWords (now (image .entry)) ++ drop (8 + 8 * imageGates (now (image .entry)) + imageOutputs (now (image .entry))) (now (words .entry))) ⌝ }
+    ensures { λ r. ⌜ (imageRefusal (now (image .entry)) ≡ Fine → now (words .exit) ≡ imageWords (now (image .entry)) ++ drop (8 + 8 * imageGates (now (image .entry)) + imageOutputs (now (image .entry))) (now (words .entry))) ⌝ }
 {
     match judge_trailer(image) {
         Loaded::Done => load_netlist(image, words),

@@ -11,11 +11,12 @@ use lib.Seq.{take-suc, getD-set-same, getD-set-other}
 use lib.Dec.{eqb}
 use borrow.Author.Tests.{eqb-true, eqb-false}
 use Rattle.figure.specs.Figure.{bitOf}
-use Rattle.netlist.specs.Live.{count, isLive, withGate, liveReadsFrom, liveReads, readers}
+use Rattle.lists.specs.Lists.{count}
+use Rattle.netlist.specs.Live.{isLive, withGate, liveReadsFrom, liveReads, readers}
 use Rattle.netlist.proofs.Count.{count-append}
 use Rattle.netlist.proofs.Live.{ifLive, count-with}
-use Rattle.words.specs.Words.{inputs, gates, outputs, pinCount, pins, usedPins, outputWords}
-use Rattle.live.specs.Net.{gatesFrom, netOf}
+use Rattle.area.specs.Layout.{mostSources, inputs, gates, outputs, pinCount, pinsIndex, pins, usedPins, outputsIndex, outputWords}
+use Rattle.area.specs.Net.{gatesFrom, netOf}
 use Rattle.live.specs.Counted.{Counts, Added, readsOf, gateReads}
 
 -- xs has at each source how often it stands in rs
@@ -27,8 +28,8 @@ zeros zero s = refl
 zeros (suc n) zero = refl
 zeros (suc n) (suc s) = zeros n s
 
-pub no-reads : Counts (replicate 1036 0)
-no-reads = record { long = refl; few = λ s. omega (arith, zeros 1036 s) }
+pub no-reads : Counts (replicate mostSources 0)
+no-reads = record { long = refl; few = λ s. omega (arith, zeros mostSources s) }
 
 -- one read of source r
 one-read : (xs : List ℕ) (r s : ℕ) → r < length xs → getD (set xs r (getD xs r 0 + 1)) s 0 ≡ getD xs s 0 + bitOf (eqb s r)
@@ -59,8 +60,8 @@ abbrev pub readsAfter : List ℕ → ℕ → List ℕ
 readsAfter ws j = liveReadsFrom (outputWords ws) (inputs ws + j) (gatesFrom ws [] [] j (gates ws - j))
 
 -- before the first gate that is looked at there are the outputs, after the last one all live readers
-pub first-reads : (ws xs : List ℕ) → Added (replicate 1036 0) (outputWords ws) xs → CountsOf xs (readsAfter ws (gates ws))
-first-reads ws xs added s = rw (sub-self (gates ws)) (omega (arith, added .each s, zeros 1036 s))
+pub first-reads : (ws xs : List ℕ) → Added (replicate mostSources 0) (outputWords ws) xs → CountsOf xs (readsAfter ws (gates ws))
+first-reads ws xs added s = rw (sub-self (gates ws)) (omega (arith, added .each s, zeros mostSources s))
 
 pub all-reads : (ws xs : List ℕ) → CountsOf xs (readsAfter ws 0) → (s : ℕ) → getD xs s 0 ≡ readers (netOf ws [] []) s
 unfolding readers liveReads
@@ -80,7 +81,7 @@ pub live-added : (r : ℕ) (ps old new : List ℕ) → 0 < r → Added old ps ne
 live-added zero ps old new l added = absurd (omega arith)
 live-added (suc r) ps old new l added = added
 
-pub dead-added : (r : ℕ) (ps counts : List ℕ) → r ≡ 0 → length counts ≡ 1036 → Added counts (readsOf r ps) counts
+pub dead-added : (r : ℕ) (ps counts : List ℕ) → r ≡ 0 → length counts ≡ mostSources → Added counts (readsOf r ps) counts
 dead-added zero ps counts e l = record { long = l; each = λ s. sym (add-zero (getD counts s 0)) }
 dead-added (suc r) ps counts e l = absurd (omega arith)
 
@@ -114,12 +115,12 @@ reads-length ws outs s j (suc k) =
       arith,
       with-length s (usedPins ws j) (liveReadsFrom outs (suc s) (gatesFrom ws [] [] (suc j) k)),
       length-take (pinCount ws j) (pins ws j),
-      length-take 4 (drop (8 + 8 * j + 2) ws),
+      length-take 4 (drop (pinsIndex j) ws),
       reads-length ws outs (suc s) (suc j) k,
     )
 
 -- the counts stay small
-pub few-reads : (ws xs : List ℕ) (j : ℕ) → gates ws ≤ 1024 → outputs ws ≤ 64 → length xs ≡ 1036 → CountsOf xs (readsAfter ws j) → Counts xs
+pub few-reads : (ws xs : List ℕ) (j : ℕ) → gates ws ≤ 1024 → outputs ws ≤ 64 → length xs ≡ mostSources → CountsOf xs (readsAfter ws j) → Counts xs
 few-reads ws xs j g k l h =
     record {
       long = l;
@@ -129,6 +130,6 @@ few-reads ws xs j g k l h =
             h s,
             count-length s (readsAfter ws j),
             reads-length ws (outputWords ws) (inputs ws + j) j (gates ws - j),
-            length-take (outputs ws) (drop (8 + 8 * gates ws) ws),
+            length-take (outputs ws) (drop (outputsIndex (gates ws)) ws),
           );
     }

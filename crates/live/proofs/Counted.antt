@@ -9,12 +9,13 @@ use lib.ListN.{length, getD}
 use lib.Dec.{leb}
 use borrow.Author.Tests.{le-leb, lt-leb}
 use Rattle.figure.specs.Figure.{bitOf}
-use Rattle.netlist.specs.Live.{count, isLive, liveReads, readers, liveAmong, liveGates, firstSharedFrom, firstShared, SingleReaders}
+use Rattle.lists.specs.Lists.{count}
+use Rattle.netlist.specs.Live.{isLive, liveReads, readers, liveAmong, liveGates, firstSharedFrom, firstShared, SingleReaders}
 use Rattle.netlist.proofs.Shared.{none-single}
-use Rattle.words.specs.Words.{inputs, gates}
-use Rattle.live.specs.Net.{netOf}
+use Rattle.area.specs.Layout.{inputs, gates}
+use Rattle.area.specs.Net.{netOf}
 use Rattle.live.specs.Counted.{liveCounted, sharedCounted}
-use Rattle.live.proofs.Net.{gate-count, same-live-gates, same-first-shared}
+use Rattle.area.proofs.Net.{gate-count, same-live-gates, same-first-shared}
 use Rattle.live.proofs.Count.{CountsOf}
 
 has-reader : (r : ℕ) → 0 < r → isLive r ≡ true

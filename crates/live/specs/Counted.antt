@@ -6,17 +6,18 @@ use mathlib.Core.Path.{_≡_}
 use lib.ListN.{length, getD}
 use lib.Dec.{leb}
 use Rattle.figure.specs.Figure.{bitOf}
-use Rattle.netlist.specs.Live.{count, isLive}
-use Rattle.words.specs.Words.{inputs, usedPins}
+use Rattle.lists.specs.Lists.{count}
+use Rattle.netlist.specs.Live.{isLive}
+use Rattle.area.specs.Layout.{mostSources, inputs, usedPins}
 
 -- counts that take further reads: room for 12 inputs and 1,024 gates, and none above what 64 outputs and four pins a gate come to
 pub record Counts (counts : List ℕ) : Type 0 where
-  pub long : length counts ≡ 1036
+  pub long : length counts ≡ mostSources
   pub few : (s : ℕ) → getD counts s 0 ≤ 4160
 
 -- new is old with the reads rs added
 pub record Added (old rs new : List ℕ) : Type 0 where
-  pub long : length new ≡ 1036
+  pub long : length new ≡ mostSources
   pub each : (s : ℕ) → getD new s 0 ≡ getD old s 0 + count s rs
 
 -- what a gate with so many readers reads: nothing if it is dead
@@ -31,8 +32,3 @@ gateReads ws counts j = readsOf (getD counts (inputs ws + j) 0) (usedPins ws j)
 abbrev pub liveCounted : List ℕ → ℕ → ℕ → ℕ
 liveCounted counts s zero = 0
 liveCounted counts s (suc k) = bitOf (isLive (getD counts s 0)) + liveCounted counts (suc s) k
-
--- the lowest of k gates, the first of which is source s, with two readers or more; k if there is none
-abbrev pub sharedCounted : List ℕ → ℕ → ℕ → ℕ
-sharedCounted counts s zero = 0
-sharedCounted counts s (suc k) = cond (leb 2 (getD counts s 0)) 0 (suc (sharedCounted counts (suc s) k))

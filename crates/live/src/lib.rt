@@ -6,9 +6,9 @@ ghost use mathlib.Core.List.{[]};
 ghost use Prim.Native.Nat.{ℕ, _+_, _<_, _≤_};
 ghost use lib.ListN.{length, getD, take, drop};
 ghost use Rattle.netlist.specs.Live.{readers};
-ghost use Rattle.words.specs.Words.{gates};
-ghost use Rattle.words.specs.Rules.{Sound};
-ghost use Rattle.live.specs.Net.{netOf};
+ghost use Rattle.area.specs.Layout.{gates};
+ghost use Rattle.area.specs.Rules.{Sound};
+ghost use Rattle.area.specs.Net.{netOf};
 ghost use Rattle.live.specs.Counted.{Counts, Added, gateReads, liveCounted, sharedCounted};
 
 // One reader more for each of the `many` sources that stand in the area from `start` on.

@@ -9,8 +9,8 @@ use lib.ListN.{length, getD}
 use lib.Dec.{eqb}
 use borrow.Author.Tests.{eqb-true, eq-eqb, ne-eqb}
 use Rattle.figure.specs.Figure.{bitOf}
-use Rattle.netlist.specs.Live.{count}
-use Rattle.netlist.specs.WellFormed.{Below}
+use Rattle.lists.specs.Lists.{count}
+use Rattle.lists.specs.Lists.{Below}
 
 pub count-self : (s : ℕ) (rs : List ℕ) → count s (s ∷ rs) ≡ suc (count s rs)
 count-self s rs = omega (arith, ap bitOf (eq-eqb s s refl))

@@ -6,7 +6,7 @@ use native.Mathlib.Nat.{add-zero}
 use native.Mathlib.Omega.{arith}
 use lib.ListN.{length, getD}
 use Rattle.netlist.specs.Netlist.{Gate, noGate}
-use Rattle.netlist.specs.WellFormed.{Below}
+use Rattle.lists.specs.Lists.{Below}
 
 -- P holds of each gate with its source, the first being s
 abbrev pub AllFrom : (ℕ → Gate → Type 0) → ℕ → List Gate → Type 0

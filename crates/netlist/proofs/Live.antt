@@ -11,10 +11,12 @@ use lib.ListN.{length, getD, drop}
 use lib.Seq.{drop-cons}
 use Rattle.figure.specs.Figure.{bitOf}
 use Rattle.netlist.specs.Netlist.{Gate, Netlist, noGate, gateAt}
-use Rattle.netlist.specs.WellFormed.{Below, PinsBelow}
-use Rattle.netlist.specs.Live.{count, isLive, withGate, liveReadsFrom, liveReads, readers, liveAmong}
+use Rattle.lists.specs.Lists.{Below}
+use Rattle.netlist.specs.WellFormed.{PinsBelow}
+use Rattle.lists.specs.Lists.{count}
+use Rattle.netlist.specs.Live.{isLive, withGate, liveReadsFrom, liveReads, readers, liveAmong}
 use Rattle.netlist.specs.Live.{Live, output-reads, gate-reads, Depends, reads, reads-further}
-use Rattle.netlist.specs.Average.{sumBelow}
+use Rattle.lists.specs.Lists.{sumBelow}
 use Rattle.netlist.proofs.Each.{AllFrom, all-head, all-tail, pinsBelow}
 use Rattle.netlist.proofs.Count.{count-append, count-below, below-count}
 

@@ -12,7 +12,8 @@ use lib.ListN.{length}
 use lib.Dec.{leb}
 use borrow.Author.Tests.{leb-true, leb-false}
 use Rattle.netlist.specs.Netlist.{Netlist}
-use Rattle.netlist.specs.Live.{count, liveReads, readers, firstSharedFrom, firstShared, SingleReaders}
+use Rattle.lists.specs.Lists.{count}
+use Rattle.netlist.specs.Live.{liveReads, readers, firstSharedFrom, firstShared, SingleReaders}
 
 -- j is the lowest of k gates from source s on that rs reads twice or more, or k
 pub record Lowest (rs : List ℕ) (s k j : ℕ) : Type 0 where

@@ -9,7 +9,8 @@ use native.Mathlib.Omega.{arith}
 use lib.ListN.{length, getD}
 use Rattle.figure.specs.Figure.{isOdd, answer}
 use Rattle.netlist.specs.Netlist.{Gate, Netlist, gateAt, inputValues, pinValues, values, rightValues}
-use Rattle.netlist.specs.WellFormed.{Below, PinsBelow}
+use Rattle.lists.specs.Lists.{Below}
+use Rattle.netlist.specs.WellFormed.{PinsBelow}
 use Rattle.netlist.proofs.Count.{below-tail}
 use Rattle.netlist.proofs.Grow.{Looks, Solves, grow, grow-solves, grow-unique}
 

@@ -3,14 +3,10 @@ use Prim.Native.Nat.{ℕ, zero, suc, _+_, _*_, _^_}
 use mathlib.Core.List.{List}
 use lib.ListN.{getD}
 use Rattle.rounding.specs.Rounding.{roundDiv}
+use Rattle.lists.specs.Lists.{sumBelow}
 use Rattle.netlist.specs.Netlist.{Netlist}
 use Rattle.netlist.specs.Exact.{exactSum}
 use Rattle.netlist.specs.Figures.{reliability}
-
--- F 0 + .. + F (k - 1)
-abbrev pub sumBelow : ℕ → (ℕ → ℕ) → ℕ
-sumBelow zero F = 0
-sumBelow (suc k) F = sumBelow k F + F k
 
 -- the sum over all patterns q of weight q × F q
 abbrev pub weightedSum : Netlist → List ℕ → (ℕ → ℕ) → ℕ

@@ -5,13 +5,9 @@ use mathlib.Core.Bool.{Bool, true, false, cond}
 use mathlib.Core.List.{List, [], _∷_, _++_}
 use lib.ListN.{length}
 use lib.Dec.{eqb, leb}
+use Rattle.lists.specs.Lists.{count}
 use Rattle.figure.specs.Figure.{bitOf}
 use Rattle.netlist.specs.Netlist.{Gate, Netlist, gateAt}
-
--- how often s stands in a list of reads
-abbrev pub count : ℕ → List ℕ → ℕ
-count s [] = 0
-count s (r ∷ rs) = bitOf (eqb s r) + count s rs
 
 -- a gate with so many live readers is live if there is one
 abbrev pub isLive : ℕ → Bool

@@ -2,11 +2,8 @@
 use Prim.Native.Nat.{ℕ, _+_, _≤_, _<_}
 use mathlib.Core.List.{List}
 use lib.ListN.{length, getD}
+use Rattle.lists.specs.Lists.{Below}
 use Rattle.netlist.specs.Netlist.{Netlist, gateAt}
-
--- every entry of a list is below b
-abbrev pub Below : ℕ → List ℕ → Type 0
-Below b xs = (i : ℕ) → i < length xs → getD xs i 0 < b
 
 -- every used pin reads an input or an earlier gate
 abbrev pub PinsBelow : Netlist → Type 0

@@ -10,8 +10,9 @@ use lib.Dec.{leb, ltb, eqb}
 use lib.ListN.{length, getD, take, drop, length-take}
 use lib.Pow.{shl-exact}
 use lib.Seq.{getD-take, getD-drop}
-use Rattle.words.specs.Words.{gates, outputs, outputWords}
-use Rattle.words.specs.Rules.{allZero, allBelow, gateShape, usedBelow, countsInRange}
+use Rattle.area.specs.Layout.{gates, outputs, outputsIndex, outputWords}
+use Rattle.lists.specs.Lists.{allZero, allBelow}
+use Rattle.area.specs.Rules.{gateShape, usedBelow, countsInRange}
 
 -- both of two tests, apart and together
 pub both : (a b : Bool) → a && b ≡ true → (a ≡ true) × (b ≡ true)
@@ -104,7 +105,7 @@ pub shifted : (n : ℕ) → n ≤ 12 → 1 * 2 ^ n % 2 ^ 32 ≡ 2 ^ n
 shifted n h = shl-exact 1 n 32 (omega arith) (omega arith) ∙ one-mul (2 ^ n)
 
 -- the output words by their start and end
-pub middle : (ws : List ℕ) → take (8 + 8 * gates ws + outputs ws - (8 + 8 * gates ws)) (drop (8 + 8 * gates ws) ws) ≡ outputWords ws
+pub middle : (ws : List ℕ) → take (outputsIndex (gates ws) + outputs ws - (outputsIndex (gates ws))) (drop (outputsIndex (gates ws)) ws) ≡ outputWords ws
 middle ws =
-    let z : 8 + 8 * gates ws + outputs ws - (8 + 8 * gates ws) ≡ outputs ws = omega arith in
-    ap (λ (k : ℕ). take k (drop (8 + 8 * gates ws) ws)) z
+    let z : outputsIndex (gates ws) + outputs ws - (outputsIndex (gates ws)) ≡ outputs ws = omega arith in
+    ap (λ (k : ℕ). take k (drop (outputsIndex (gates ws)) ws)) z

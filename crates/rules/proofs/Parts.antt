@@ -7,8 +7,10 @@ use mathlib.Core.Path.{_≡_}
 use lib.Dec.{leb, ltb, eqb}
 use lib.ListN.{length, getD}
 use Rattle.rounding.specs.Rounding.{unitsInOne}
-use Rattle.words.specs.Words.{inputs, gates, outputs, pattern, reliabilityWord, pinCount, table, pins, flip, figure, outputWords, needed}
-use Rattle.words.specs.Rules.{allBelow, gateShape, usedBelow, largestFigure, gateSound, gatesSound, countsInRange, reservedRight, restSound, areaRefusal}
+use Rattle.area.specs.Layout.{inputs, gates, outputs, pattern, reliabilityWord, pinCount, table, pins, flip, figure, outputWords, needed}
+use Rattle.lists.specs.Lists.{allBelow}
+use Rattle.area.specs.Rules.{gateShape, usedBelow, gateSound, gatesSound, countsInRange, reservedRight, restSound, areaRefusal}
+use Rattle.area.specs.Layout.{largestFigure}
 
 pub gate-is : (ws : List ℕ) (j : ℕ) (a b c d : Bool)
     → gateShape (pinCount ws j) (table ws j) (pins ws j) ≡ a

@@ -8,11 +8,13 @@ use borrow.Author.Tests.{leb-true, le-leb, ltb-true, ltb-false, lt-ltb, le-ltb, 
 use lib.Dec.{leb, ltb, eqb}
 use lib.ListN.{length, getD, drop, length-take, length-drop}
 use Rattle.rounding.specs.Rounding.{unitsInOne}
-use Rattle.words.specs.Words.{inputs, gates, outputs, pattern, reliabilityWord, pinCount, table, pins, flip, figure, outputWords, needed}
-use Rattle.words.specs.Rules.{allBelow, gateShape, usedBelow, largestFigure, gateSound, gatesSound, countsInRange, reservedRight, restSound, areaRefusal, GateSound, Sound}
+use Rattle.area.specs.Layout.{inputs, gates, outputs, pattern, reliabilityWord, pinCount, table, pins, flip, figure, outputsIndex, outputWords, needed}
+use Rattle.lists.specs.Lists.{allBelow}
+use Rattle.area.specs.Rules.{gateShape, usedBelow, gateSound, gatesSound, countsInRange, reservedRight, restSound, areaRefusal, GateSound, Sound}
+use Rattle.area.specs.Layout.{largestFigure}
 use Rattle.rules.specs.Judge.{answerOf, judged}
 use Rattle.rules.specs.declared.Judged.the-variants as Judged
-use Rattle.rules.proofs.Every.{gates-hold, gates-pass}
+use Rattle.lists.proofs.Every.{gates-hold, gates-pass}
 use Rattle.rules.proofs.Facts.{both, shape-holds, shape-passes, used-holds, used-passes, below-holds, below-passes, counts-hold, counts-pass}
 use Rattle.rules.proofs.Parts.{gate-is, reserved-is, rest-is, refusal-is}
 
@@ -104,7 +106,7 @@ sound-passes ws s =
     (lt-ltb _ _ (s .pattern-fits))
     (le-leb _ _ (s .reliability-fits))
     (gates-pass ws (gates ws) (λ j h. gate-passes ws j (s .gate j h)))
-    (below-passes (inputs ws + gates ws) (outputWords ws) (λ k h. s .outputs-below k (omega (arith, length-take (outputs ws) (drop (8 + 8 * gates ws) ws))))))
+    (below-passes (inputs ws + gates ws) (outputWords ws) (λ k h. s .outputs-below k (omega (arith, length-take (outputs ws) (drop (outputsIndex (gates ws)) ws))))))
 
 -- the answer of `rules::judge`
 pub judged-sound : (ws : List ℕ) → judged ws ≡ Judged.Sound → Sound ws

@@ -1,7 +1,7 @@
 -- The answer of `rules::judge`, by cases on the refusal of Rules.antt that applies to the area.
 use Prim.Native.Nat.{ℕ, zero, suc}
 use mathlib.Core.List.{List}
-use Rattle.words.specs.Rules.{areaRefusal}
+use Rattle.area.specs.Rules.{areaRefusal}
 use Rattle.rules.specs.declared.Judged.{Judged}
 use Rattle.rules.specs.declared.Judged.the-variants.{Sound, Refused}
 

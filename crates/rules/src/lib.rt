@@ -3,18 +3,9 @@ ghost use mathlib.Core.Path.{_≡_};
 ghost use Prim.Native.Nat.{_+_, _-_, _*_, _^_, _<_, _≤_};
 ghost use lib.ListN.{length, take, drop};
 ghost use lib.Dec.{ltb};
-ghost use Rattle.words.specs.Rules.{
-  allZero,
-  allBelow,
-  gateShape,
-  usedBelow,
-  gateSound,
-  gatesSound,
-  countsInRange,
-  reservedRight,
-  restSound,
-};
-ghost use Rattle.words.specs.Words.{inputs, gates, outputs, needed};
+ghost use Rattle.lists.specs.Lists.{allZero, allBelow};
+ghost use Rattle.area.specs.Rules.{gateShape, usedBelow, gateSound, gatesSound, countsInRange, reservedRight, restSound};
+ghost use Rattle.area.specs.Layout.{inputs, gates, outputs, needed};
 ghost use Rattle.rules.specs.Judge.{judged};
 
 // 2 × U + 1 of document 01: the largest last word of a gate.

@@ -2,10 +2,10 @@
 use Prim.Native.Nat.{ℕ}
 use mathlib.Core.Path.{_≡_, refl, sym, ap, _∙_}
 use native.Mathlib.Omega.{arith}
-use Rattle.words.specs.Words.{inputs}
+use Rattle.area.specs.Layout.{inputs}
 use Rattle.calls.specs.Judged.{weightsJudgement, averageJudgement}
-use Rattle.patterns.specs.Weights.{weightsAnswer}
-use Rattle.patterns.specs.declared.WeightsJudged.{WeightsJudged}
+use Rattle.average.specs.Weights.{weightsAnswer}
+use Rattle.average.specs.declared.WeightsJudged.{WeightsJudged}
 use Rattle.bench.proofs.Judged.{past-area, stopped, passed}
 use Rattle.bench.proofs.Weights.{weights-refused, weights-fine}
 use borrow.Author.Needs.{needs}

@@ -3,10 +3,10 @@ use Prim.Native.Nat.{ℕ}
 use mathlib.Core.Path.{_≡_, refl, sym, _∙_}
 use mathlib.Core.List.{List, _++_}
 use lib.ListN.{length}
-use Rattle.image.specs.Judgement.{fine}
+use Rattle.refusal.specs.declared.Judgement.the-variants.{Fine}
 use Rattle.image.specs.Refusals.{imageRefusal}
 use Rattle.image.specs.Loading.{imageWords}
-use Rattle.image.proofs.Judged.{done-fine, refused-is}
+use Rattle.refusal.proofs.Laws.{done-fine, refused-is}
 use Rattle.image.proofs.Sound.{loaded-sound}
 use Rattle.bench.proofs.Opening.{loaded-front, open-judged, open-live, open-words, open-refused}
 use borrow.Author.Needs.{needs}
@@ -14,7 +14,7 @@ use Rattle.bench.proofs.open.Statement.{statement}
 use Rattle.bench.proofs.open.Tie as tie
 
 -- the image is accepted, and the local words hold it
-accepted : (c : tie.After-enum-told) → imageRefusal (c .before .before .before .before .before .before .before .args .image .now) ≡ fine
+accepted : (c : tie.After-enum-told) → imageRefusal (c .before .before .before .before .before .before .before .args .image .now) ≡ Fine
 accepted c = done-fine (imageRefusal (c .before .before .before .before .before .before .before .args .image .now)) (sym (c .before .before .before .load .ensures .0) ∙ c .enum-told .given .1)
 
 held : (c : tie.After-enum-told) → (tail : List ℕ) × (c .before .before .before .load .last .1 .0 ≡ imageWords (c .before .before .before .before .before .before .before .args .image .now) ++ tail)

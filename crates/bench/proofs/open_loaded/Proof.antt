@@ -5,9 +5,9 @@ use mathlib.Core.List.{List, [], _++_}
 use native.Mathlib.Omega.{arith}
 use lib.ListN.{length, take, drop}
 use Rattle.netlist.specs.Live.{firstShared, liveGates}
-use Rattle.words.specs.Words.{inputs, gates, outputs, needed}
-use Rattle.words.specs.Work.{workAll}
-use Rattle.live.specs.Net.{netOf}
+use Rattle.area.specs.Layout.{inputs, gates, outputs, gateIndex, needed}
+use Rattle.work.specs.Work.{workAll}
+use Rattle.area.specs.Net.{netOf}
 use Rattle.live.specs.Counted.{liveCounted, sharedCounted}
 use Rattle.live.proofs.Counted.{live-gates-are, first-shared-are}
 use Rattle.bench.specs.Loaded.{loadedWords}
@@ -27,8 +27,8 @@ shared-is f =
     ∙ ap₂ (sharedCounted xs) (f .before .before .before .before .before .before .before .index .ensures) (f .before .before .before .before .before .index2 .ensures)
     ∙ first-shared-are (words f) xs (f .before .before .count-readers .ensures) [] []
 
-count-is : (f : tie.After-first-shared) → 8 + 8 * f .before .before .before .before .before .index2 .result + f .before .before .before .index3 .result ≡ needed (gates (words f)) (outputs (words f))
-count-is f = ap₂ (λ (g k : ℕ). 8 + 8 * g + k) (f .before .before .before .before .before .index2 .ensures) (f .before .before .before .index3 .ensures)
+count-is : (f : tie.After-first-shared) → gateIndex (f .before .before .before .before .before .index2 .result) + f .before .before .before .index3 .result ≡ needed (gates (words f)) (outputs (words f))
+count-is f = ap₂ (λ (g k : ℕ). gateIndex g + k) (f .before .before .before .before .before .index2 .ensures) (f .before .before .before .index3 .ensures)
 
 -- no gate is shared
 alone : (f : tie.After-first-shared) → f .first-shared .result ≡ f .before .before .before .before .before .index2 .result → f .first-shared .result ≡ gates (words f)

@@ -1,7 +1,7 @@
 -- `bench::read_gate` meets its contract. Assumes nothing.
 use mathlib.Core.Path.{_≡_, refl, _∙_}
 use native.Mathlib.Omega.{arith}
-use Rattle.words.specs.Words.{gates}
+use Rattle.area.specs.Layout.{gates}
 use Rattle.calls.specs.Judged.{named, gateJudgement}
 use Rattle.bench.proofs.Judged.{past-area, stopped, passed, named-below, named-past}
 use borrow.Author.Needs.{needs}

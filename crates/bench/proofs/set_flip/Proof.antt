@@ -1,12 +1,13 @@
 -- `bench::set_flip` meets its contract. Assumes nothing.
 use mathlib.Core.Path.{_≡_, refl, sym, ap, _∙_}
 use native.Mathlib.Omega.{arith}
-use Rattle.words.specs.Words.{gates}
-use Rattle.image.specs.Judgement.{Judgement, otherwise}
+use Rattle.area.specs.Layout.{gates}
+use Rattle.refusal.specs.declared.Judgement.{Judgement}
+use Rattle.refusal.specs.Judgement.{otherwise}
 use Rattle.calls.specs.Judged.{named, flipJudgement, setJudgement}
 use Rattle.calls.specs.Calls.{flipUnits}
 use mathlib.Core.Bool.{true, false}
-use Rattle.words.specs.Work.{setWords}
+use Rattle.work.specs.Work.{setWords}
 use Rattle.chance.proofs.Laws.{units-accepted, units-refused, flip-units-at-most}
 use Rattle.bench.proofs.Judged.{past-area, stopped, passed, named-past, settled}
 use borrow.Author.Needs.{needs}

@@ -1,7 +1,7 @@
 -- `bench::toggle_input` meets its contract. Assumes nothing.
 use mathlib.Core.Path.{_≡_, refl, _∙_}
 use native.Mathlib.Omega.{arith}
-use Rattle.words.specs.Words.{inputs}
+use Rattle.area.specs.Layout.{inputs}
 use Rattle.calls.specs.Judged.{named, toggleJudgement}
 use Rattle.bench.proofs.Judged.{past-area, stopped, passed, named-below, named-past}
 use borrow.Author.Needs.{needs}

@@ -1,7 +1,7 @@
 -- `bench_c::bench_read_gate` meets its contract. Assumes nothing.
 use mathlib.Core.Path.{refl, sym, _∙_}
 use Prim.Native.Nat.{_/_, _%_}
-use Rattle.words.specs.Words.{figure}
+use Rattle.area.specs.Layout.{figure}
 use Rattle.calls.specs.Judged.{gateJudgement}
 use Rattle.bench_c.proofs.Answered.{gate-told}
 use borrow.Author.Needs.{needs}

@@ -1,7 +1,7 @@
 -- `bench_c::bench_read_netlist` meets its contract. Assumes nothing.
 use mathlib.Core.Path.{refl}
-use Rattle.words.specs.Words.{pattern, reliabilityWord}
-use Rattle.calls.specs.Judged.{areaJudgement}
+use Rattle.area.specs.Layout.{pattern, reliabilityWord}
+use Rattle.area.specs.Rules.{areaJudgement}
 use Rattle.bench_c.proofs.Answered.{netlist-told}
 use borrow.Author.Needs.{needs}
 use Rattle.bench_c.proofs.bench_read_netlist.Statement.{statement}

@@ -1,7 +1,7 @@
 -- `bench_c::bench_set_flip` meets its contract. Assumes nothing.
 use Prim.Native.Nat.{ℕ}
 use mathlib.Core.List.{List, [], _∷_}
-use Rattle.words.specs.Work.{setWords}
+use Rattle.work.specs.Work.{setWords}
 use Rattle.calls.specs.Judged.{setJudgement}
 use Rattle.calls.specs.Calls.{leftBy, flipUnits}
 use Rattle.bench.specs.Answers.{flipSet}

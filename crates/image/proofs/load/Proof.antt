@@ -5,11 +5,12 @@ use native.Mathlib.Omega.{arith}
 use lib.ListN.{length}
 use denote.Ref.{now}
 use borrow.Author.Needs.{needs}
+use Rattle.area.specs.Layout.{mostWords}
 use Rattle.image.specs.Refusals.{trailerRefusal, imageRefusal}
-use Rattle.image.specs.Judgement.{loaded}
+use Rattle.refusal.specs.Judgement.{loaded}
 use Rattle.image.proofs.Middle.{image-first, image-second, stored-front}
 use Rattle.image.proofs.Trailer.{trailer-right}
-use Rattle.image.proofs.Judged.{done-fine, refused-is, never-both}
+use Rattle.refusal.proofs.Laws.{done-fine, refused-is, never-both}
 use Rattle.image.proofs.load.Statement.{statement}
 use Rattle.image.proofs.load.Tie as tie
 
@@ -37,7 +38,7 @@ returns c =
     let passed = done-fine (trailerRefusal bs) (sym (c .before .before .before .before .before .before .judge-trailer .ensures) ∙ c .before .before .before .before .enum-told .given .1) in
     let answer = net .ensures .0 ∙ ap loaded (sym (image-second bs passed)) in
     let t = trailer-right bs passed in
-    let room : 8264 ≤ length (now (c .before .before .before .before .before .before .before .before .before .args .words)) = c .before .before .before .before .before .before .before .before .before .pre in
+    let room : mostWords ≤ length (now (c .before .before .before .before .before .before .before .before .before .args .words)) = c .before .before .before .before .before .before .before .before .before .pre in
     (answer, λ e. stored-front bs (now (c .before .before .before .before .before .before .before .before .before .args .words)) _ (omega arith) (net .ensures .1 (answer ∙ ap loaded e)))
 
 returns-2 : tie.Need-returns-2

@@ -6,11 +6,12 @@ use lib.Seq.{sets}
 use denote.Ref.{now}
 use borrow.Author.Tests.{not-true, not-false}
 use borrow.Author.Needs.{needs}
+use Rattle.area.specs.Layout.{gateIndex}
 use Rattle.chance.proofs.Laws.{units-accepted, units-refused}
 use Rattle.rules.proofs.Facts.{shape-holds}
-use Rattle.image.specs.Judgement.{loaded}
+use Rattle.refusal.specs.Judgement.{loaded}
 use Rattle.image.proofs.Gates.{shape-from, used-from, flip-from, gate-5, gate-6, gate-7, gate-fine, words-of}
-use Rattle.image.proofs.Judged.{refused-not-done}
+use Rattle.refusal.proofs.Laws.{refused-not-done}
 use Rattle.image.proofs.load_gate.Statement.{statement}
 use Rattle.image.proofs.load_gate.Tie as tie
 
@@ -102,7 +103,7 @@ returns-3 c =
     let units = c .before .before .before .before .before .units .given in
     let said = units-accepted (g .result .kind) (g .result .field) (units .0 .0) (sym (c .before .before .before .before .before .before .before .read-units .ensures) ∙ units .1) in (
       ap loaded (sym (gate-fine m (a .n) (a .j) (shape ∙ not-false (c .before .before .before .before .before .before .before .before .before .before .before .gate-shape .result) (c .before .before .before .before .before .before .before .before .before .before .if1 .left)) (used ∙ not-false (c .before .before .before .before .before .before .before .before .before .used-below .result) (c .before .before .before .before .before .before .before .before .if2 .left)) (flip-from m (a .j) (g .result) (g .ensures) true (said .0)))),
-      λ e. c .before .before .write-eight .ensures ∙ ap (sets (now (a .words)) (8 + 8 * a .j)) (words-of m (a .j) (units .0 .0) (g .result) (g .ensures) (said .1)),
+      λ e. c .before .before .write-eight .ensures ∙ ap (sets (now (a .words)) (gateIndex (a .j))) (words-of m (a .j) (units .0 .0) (g .result) (g .ensures) (said .1)),
     )
 
 returns-4 : tie.Need-returns-4

@@ -6,17 +6,20 @@ use lib.Seq.{sets}
 use lib.ListN.{length}
 use denote.Ref.{now}
 use borrow.Author.Needs.{needs}
-use Rattle.image.specs.Judgement.{fine, loaded, lowest, joined}
+use Rattle.area.specs.Layout.{gateIndex}
+use Rattle.refusal.specs.declared.Judgement.the-variants.{Fine}
+use Rattle.refusal.specs.Judgement.{loaded, lowest}
+use Rattle.lists.specs.Lists.{joined}
 use Rattle.image.specs.declared.Loaded.the-variants.{Done}
 use Rattle.image.specs.Loading.{gateWords}
 use Rattle.image.specs.Refusals.{gateRefusal}
 use Rattle.image.proofs.Sets.{joined-turn, length-joined}
-use Rattle.image.proofs.Judged.{done-fine, lowest-more, lowest-answer, refused-not-done}
+use Rattle.refusal.proofs.Laws.{done-fine, lowest-more, lowest-answer, refused-not-done}
 use Rattle.image.proofs.load_gates.Statement.{statement}
 use Rattle.image.proofs.load_gates.Tie as tie
 
 abbrev Inv-loop : tie.InvT-loop
-Inv-loop middle n gates words₀ j₀ words j = (j ≤ gates) × (length words ≡ length words₀) × (lowest (gateRefusal middle n) j ≡ fine) × (words ≡ sets words₀ 8 (joined (gateWords middle) j))
+Inv-loop middle n gates words₀ j₀ words j = (j ≤ gates) × (length words ≡ length words₀) × (lowest (gateRefusal middle n) j ≡ Fine) × (words ≡ sets words₀ 8 (joined (gateWords middle) j))
 
 abbrev μ-loop : tie.MeasureT-loop
 μ-loop middle n gates words₀ j₀ words j = gates - j
@@ -46,7 +49,7 @@ loop-again c =
       omega arith,
       f .kept .1 .1 .1 .0 ∙ l .inv .1,
       lowest-more (gateRefusal m (a .n)) (l .j) (l .inv .2) (done-fine ((gateRefusal m (a .n)) (l .j)) (sym (f .ensures .0) ∙ told)),
-      joined-turn (gateWords m) (now (a .words)) (l .words) _ (8) (l .j) (8 + 8 * l .j)
+      joined-turn (gateWords m) (now (a .words)) (l .words) _ (8) (l .j) (gateIndex (l .j))
           (omega (arith, length-joined (gateWords m) 8 (λ i. refl) (l .j))) (l .inv .3) (f .ensures .1 told),
     )
 

@@ -3,10 +3,10 @@ use mathlib.Core.Path.{_≡_, sym, ap, _∙_}
 use denote.Ref.{now}
 use borrow.Author.Needs.{needs}
 use Rattle.image.specs.Refusals.{gateRefusal}
-use Rattle.image.specs.Judgement.{loaded, lowest}
+use Rattle.refusal.specs.Judgement.{loaded, lowest}
 use Rattle.image.specs.declared.Loaded.the-variants.{Done}
 use Rattle.image.proofs.Middle.{middle-first, middle-second, middle-words}
-use Rattle.image.proofs.Judged.{done-fine, refused-is, refused-not-done}
+use Rattle.refusal.proofs.Laws.{done-fine, refused-is, refused-not-done}
 use Rattle.image.proofs.load_middle.Statement.{statement}
 use Rattle.image.proofs.load_middle.Tie as tie
 

@@ -6,9 +6,10 @@ use lib.ListN.{set}
 use denote.Ref.{now}
 use borrow.Author.Tests.{lt-ltb, le-ltb}
 use borrow.Author.Needs.{needs}
+use Rattle.area.specs.Layout.{gateIndex}
 use Rattle.image.specs.Refusals.{outputRefusal}
 use Rattle.image.specs.Image.{outputAt}
-use Rattle.image.proofs.Judged.{refused-not-done}
+use Rattle.refusal.proofs.Laws.{refused-not-done}
 use Rattle.image.proofs.load_output.Statement.{statement}
 use Rattle.image.proofs.load_output.Tie as tie
 
@@ -64,7 +65,7 @@ returns-2 c =
     let a = c .before .before .before .before .args in
     let near : outputAt (now (a .middle)) (a .gates) (a .k) < a .n + a .gates = omega (arith, c .before .two-bytes .ensures .0, c .if1 .left) in (
       simp (lt-ltb (outputAt (now (a .middle)) (a .gates) (a .k)) (a .n + a .gates) near),
-      λ e. ap (λ (v : ℕ). set (now (a .words)) (8 + 8 * a .gates + a .k) v) (c .before .two-bytes .ensures .0),
+      λ e. ap (λ (v : ℕ). set (now (a .words)) (gateIndex (a .gates) + a .k) v) (c .before .two-bytes .ensures .0),
     )
 
 pub load-output-spec : {M : Type 1} → statement M

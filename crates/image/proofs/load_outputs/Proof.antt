@@ -6,17 +6,20 @@ use lib.Seq.{sets}
 use lib.ListN.{length}
 use denote.Ref.{now}
 use borrow.Author.Needs.{needs}
-use Rattle.image.specs.Judgement.{fine, loaded, lowest, joined}
+use Rattle.area.specs.Layout.{gateIndex}
+use Rattle.refusal.specs.declared.Judgement.the-variants.{Fine}
+use Rattle.refusal.specs.Judgement.{loaded, lowest}
+use Rattle.lists.specs.Lists.{joined}
 use Rattle.image.specs.declared.Loaded.the-variants.{Done}
 use Rattle.image.specs.Loading.{outputWord}
 use Rattle.image.specs.Refusals.{outputRefusal}
 use Rattle.image.proofs.Sets.{joined-turn, length-joined}
-use Rattle.image.proofs.Judged.{done-fine, lowest-more, lowest-answer, refused-not-done}
+use Rattle.refusal.proofs.Laws.{done-fine, lowest-more, lowest-answer, refused-not-done}
 use Rattle.image.proofs.load_outputs.Statement.{statement}
 use Rattle.image.proofs.load_outputs.Tie as tie
 
 abbrev Inv-loop : tie.InvT-loop
-Inv-loop middle n gates outputs words₀ k₀ words k = (k ≤ outputs) × (length words ≡ length words₀) × (lowest (outputRefusal middle n gates) k ≡ fine) × (words ≡ sets words₀ (8 + 8 * gates) (joined (outputWord middle gates) k))
+Inv-loop middle n gates outputs words₀ k₀ words k = (k ≤ outputs) × (length words ≡ length words₀) × (lowest (outputRefusal middle n gates) k ≡ Fine) × (words ≡ sets words₀ (gateIndex gates) (joined (outputWord middle gates) k))
 
 abbrev μ-loop : tie.MeasureT-loop
 μ-loop middle n gates outputs words₀ k₀ words k = outputs - k
@@ -46,7 +49,7 @@ loop-again c =
       omega arith,
       f .kept .1 .1 .1 .1 .0 ∙ l .inv .1,
       lowest-more (outputRefusal m (a .n) (a .gates)) (l .k) (l .inv .2) (done-fine ((outputRefusal m (a .n) (a .gates)) (l .k)) (sym (f .ensures .0) ∙ told)),
-      joined-turn (outputWord m (a .gates)) (now (a .words)) (l .words) _ (8 + 8 * a .gates) (l .k) (8 + 8 * a .gates + l .k)
+      joined-turn (outputWord m (a .gates)) (now (a .words)) (l .words) _ (gateIndex (a .gates)) (l .k) (gateIndex (a .gates) + l .k)
           (omega (arith, length-joined (outputWord m (a .gates)) 1 (λ i. refl) (l .k))) (l .inv .3) (f .ensures .1 told),
     )
 

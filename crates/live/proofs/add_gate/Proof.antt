@@ -2,8 +2,8 @@
 use Prim.Native.Nat.{ℕ, _+_}
 use native.Mathlib.Omega.{arith}
 use lib.ListN.{getD}
-use Rattle.words.specs.Words.{inputs, usedPins}
-use Rattle.live.proofs.Net.{pins-stand, pins-words, pin-source}
+use Rattle.area.specs.Layout.{inputs, usedPins}
+use Rattle.area.proofs.Net.{pins-stand, pins-words, pin-source}
 use Rattle.live.proofs.Count.{live-added, dead-added}
 use borrow.Author.Needs.{needs}
 use Rattle.live.proofs.add_gate.Statement.{statement}

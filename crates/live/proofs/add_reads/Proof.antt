@@ -5,7 +5,8 @@ use native.Mathlib.Nat.{add-zero}
 use native.Mathlib.Omega.{arith}
 use lib.ListN.{length, getD, take, drop, length-set, length-take, length-drop}
 use lib.Seq.{getD-drop}
-use Rattle.netlist.specs.Live.{count}
+use Rattle.area.specs.Layout.{mostSources}
+use Rattle.lists.specs.Lists.{count}
 use Rattle.live.proofs.Count.{read-turn, count-length}
 use borrow.Author.Needs.{needs}
 use Rattle.live.proofs.add_reads.Statement.{statement}
@@ -13,7 +14,7 @@ use Rattle.live.proofs.add_reads.Tie as tie
 
 abbrev Inv-loop : tie.InvT-loop
 Inv-loop readers₀ area start many i₀ readers i =
-    (i ≤ many) × (length readers ≡ 1036) × ((s : ℕ) → getD readers s 0 ≡ getD readers₀ s 0 + count s (take i (drop start area)))
+    (i ≤ many) × (length readers ≡ mostSources) × ((s : ℕ) → getD readers s 0 ≡ getD readers₀ s 0 + count s (take i (drop start area)))
 
 abbrev μ-loop : tie.MeasureT-loop
 μ-loop readers₀ area start many i₀ readers i = many - i
@@ -69,7 +70,7 @@ loop-again c =
     let start = c .before .before .before .before in
     let reads = drop (start .args .start) (start .args .area .now) in
     let source = getD (start .args .area .now) (start .args .start + l .i) 0 in
-    let below : source < 1036 = start .pre .1 .0 (l .i) (omega arith) in (
+    let below : source < mostSources = start .pre .1 .0 (l .i) (omega arith) in (
       omega arith,
       simp length-set (l .inv .1),
       read-turn

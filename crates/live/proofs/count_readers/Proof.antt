@@ -4,15 +4,15 @@ use mathlib.Core.Path.{_≡_, subst}
 use native.Mathlib.Nat.{le-refl}
 use native.Mathlib.Omega.{arith}
 use lib.ListN.{length}
-use Rattle.words.specs.Words.{gates}
-use Rattle.live.proofs.Net.{output-source}
+use Rattle.area.specs.Layout.{mostSources, gates}
+use Rattle.area.proofs.Net.{output-source}
 use Rattle.live.proofs.Count.{CountsOf, readsAfter, no-reads, first-reads, gate-turn, few-reads, all-reads}
 use borrow.Author.Needs.{needs}
 use Rattle.live.proofs.count_readers.Statement.{statement}
 use Rattle.live.proofs.count_readers.Tie as tie
 
 abbrev Inv-loop : tie.InvT-loop
-Inv-loop area gate₀ readers₀ gate readers = (gate ≤ gates area) × (length readers ≡ 1036) × CountsOf readers (readsAfter area gate)
+Inv-loop area gate₀ readers₀ gate readers = (gate ≤ gates area) × (length readers ≡ mostSources) × CountsOf readers (readsAfter area gate)
 
 abbrev μ-loop : tie.MeasureT-loop
 μ-loop area gate₀ readers₀ gate readers = gate

@@ -7,8 +7,8 @@ use borrow.Author.Needs.{needs}
 use borrow.Author.Tests.{lt-ltb, le-ltb}
 use lib.Dec.{ltb}
 use lib.ListN.{getD, take, drop}
-use Rattle.words.specs.Rules.{allBelow}
-use Rattle.rules.proofs.Every.{from, passes-on, fails, ends, below-part}
+use Rattle.lists.specs.Lists.{allBelow}
+use Rattle.lists.proofs.Every.{from, passes-on, fails, ends, below-part}
 use Rattle.rules.proofs.all_below.Statement.{statement}
 use Rattle.rules.proofs.all_below.Tie as tie
 

@@ -1,6 +1,6 @@
 -- `rules::counts_in_range` meets its contract: each test that fails decides. Assumes nothing.
 use borrow.Author.Tests.{le-leb, lt-leb}
-use Rattle.words.specs.Rules.{countsInRange}
+use Rattle.area.specs.Rules.{countsInRange}
 use Rattle.rules.proofs.counts_in_range.Statement.{statement}
 use Rattle.rules.proofs.counts_in_range.Tie as tie
 

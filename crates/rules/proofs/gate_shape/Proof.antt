@@ -1,7 +1,7 @@
 -- `rules::gate_shape` meets its contract: each test that fails decides. Assumes nothing.
 use borrow.Author.Needs.{needs}
 use borrow.Author.Tests.{le-leb, lt-leb, not-true, not-false}
-use Rattle.words.specs.Rules.{gateShape}
+use Rattle.area.specs.Rules.{gateShape}
 use Rattle.rules.proofs.gate_shape.Statement.{statement}
 use Rattle.rules.proofs.gate_shape.Tie as tie
 

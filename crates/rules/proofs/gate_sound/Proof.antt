@@ -5,8 +5,8 @@ use mathlib.Core.Path.{_≡_, refl, sym, ap, _∙_}
 use native.Mathlib.Omega.{arith}
 use borrow.Author.Tests.{le-leb, lt-leb, not-true, not-false}
 use borrow.Author.Needs.{needs}
-use Rattle.words.specs.Words.{inputs, pinCount, table, pins}
-use Rattle.words.specs.Rules.{gateShape, usedBelow}
+use Rattle.area.specs.Layout.{inputs, pinCount, table, pins, flipIndex, figureIndex}
+use Rattle.area.specs.Rules.{gateShape, usedBelow}
 use Rattle.rules.proofs.Parts.{gate-is}
 use Rattle.rules.proofs.Facts.{shape-holds}
 use Rattle.rules.proofs.gate_sound.Statement.{statement}
@@ -94,7 +94,7 @@ shared-slice-read-if3 : tie.Need-shared-slice-read-if3
 shared-slice-read-if3 c = search needs
 
 cast-if3 : tie.Need-cast-if3
-cast-if3 c = omega (arith, c .shared-slice-known5 .given (8 + 8 * c .before .before .before .before .before .before .before .before .before .before .args .j + 6))
+cast-if3 c = omega (arith, c .shared-slice-known5 .given (flipIndex (c .before .before .before .before .before .before .before .before .before .before .args .j)))
 
 returns-3 : tie.Need-returns-3
 returns-3 c =
@@ -111,7 +111,7 @@ shared-slice-read-result : tie.Need-shared-slice-read-result
 shared-slice-read-result c = search needs
 
 cast-result : tie.Need-cast-result
-cast-result c = omega (arith, c .shared-slice-known6 .given (8 + 8 * c .before .before .before .before .before .before .before .before .before .before .before .before .args .j + 7))
+cast-result c = omega (arith, c .shared-slice-known6 .given (figureIndex (c .before .before .before .before .before .before .before .before .before .before .before .before .args .j)))
 
 returns-4 : tie.Need-returns-4
 returns-4 c =

@@ -4,8 +4,8 @@ use mathlib.Core.Path.{_≡_, refl, sym, ap, _∙_}
 use native.Mathlib.Omega.{arith}
 use borrow.Author.Tests.{not-true, not-false}
 use lib.ListN.{getD}
-use Rattle.words.specs.Rules.{gateSound, gatesSound}
-use Rattle.rules.proofs.Every.{from, passes-on, fails, ends, gates-part}
+use Rattle.area.specs.Rules.{gateSound, gatesSound}
+use Rattle.lists.proofs.Every.{from, passes-on, fails, ends, gates-part}
 use borrow.Author.Needs.{needs}
 use Rattle.rules.proofs.gates_sound.Statement.{statement}
 use Rattle.rules.proofs.gates_sound.Tie as tie

@@ -5,8 +5,8 @@ use mathlib.Core.List.{List}
 use mathlib.Core.Path.{_≡_, refl, sym, ap, _∙_}
 use native.Mathlib.Omega.{arith}
 use borrow.Author.Tests.{lt-ltb, le-ltb, not-true, not-false}
-use Rattle.words.specs.Words.{inputs, gates, outputs}
-use Rattle.words.specs.Rules.{countsInRange}
+use Rattle.area.specs.Layout.{inputs, gates, outputs}
+use Rattle.area.specs.Rules.{countsInRange}
 use Rattle.rules.specs.Judge.{answerOf, judged}
 use Rattle.rules.proofs.Parts.{refusal-is}
 use Rattle.rules.proofs.Facts.{counts-hold}

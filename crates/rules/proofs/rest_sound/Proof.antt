@@ -6,8 +6,9 @@ use mathlib.Core.Path.{_≡_, refl, sym, ap, _∙_}
 use native.Mathlib.Omega.{arith}
 use borrow.Author.Tests.{le-leb, lt-leb, lt-ltb, le-ltb, not-true, not-false}
 use lib.Dec.{ltb}
-use Rattle.words.specs.Words.{inputs, gates, pattern, outputWords}
-use Rattle.words.specs.Rules.{allBelow, reservedRight, gatesSound}
+use Rattle.area.specs.Layout.{inputs, gates, pattern, outputWords}
+use Rattle.lists.specs.Lists.{allBelow}
+use Rattle.area.specs.Rules.{reservedRight, gatesSound}
 use Rattle.rules.proofs.Parts.{rest-is}
 use Rattle.rules.proofs.Facts.{shifted, middle}
 use borrow.Author.Needs.{needs}

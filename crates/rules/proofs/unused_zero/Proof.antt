@@ -7,8 +7,8 @@ use borrow.Author.Needs.{needs}
 use borrow.Author.Tests.{eq-eqb, ne-eqb}
 use lib.Dec.{eqb}
 use lib.ListN.{length, getD, drop}
-use Rattle.words.specs.Rules.{allZero}
-use Rattle.rules.proofs.Every.{from, passes-on, fails, ends, zero-part}
+use Rattle.lists.specs.Lists.{allZero}
+use Rattle.lists.proofs.Every.{from, passes-on, fails, ends, zero-part}
 use Rattle.rules.proofs.unused_zero.Statement.{statement}
 use Rattle.rules.proofs.unused_zero.Tie as tie
 

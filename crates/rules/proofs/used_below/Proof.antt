@@ -4,7 +4,8 @@ use mathlib.Core.Path.{_≡_, ap, _∙_}
 use native.Mathlib.Omega.{arith}
 use borrow.Author.Needs.{needs}
 use lib.ListN.{take}
-use Rattle.words.specs.Rules.{allBelow, usedBelow}
+use Rattle.lists.specs.Lists.{allBelow}
+use Rattle.area.specs.Rules.{usedBelow}
 use Rattle.rules.proofs.used_below.Statement.{statement}
 use Rattle.rules.proofs.used_below.Tie as tie
 

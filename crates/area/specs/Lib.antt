@@ -1,0 +1,4 @@
+pub mod Layout
+pub mod Rules
+pub mod Figures
+pub mod Net

@@ -1,0 +1,81 @@
+-- `patterns::weighted_sum` meets its contract: block after block, the sum over the patterns before it. Assumes nothing.
+use Prim.Native.Nat.{ℕ, _+_, _-_, _*_, _≤_, _<_}
+use mathlib.Core.Path.{_≡_, refl, sym, ap, _∙_}
+use native.Mathlib.Omega.{arith}
+use borrow.Author.Needs.{needs}
+use lib.ListN.{length, length-replicate}
+use Rattle.rounding.specs.Rounding.{unitsInOne}
+use Rattle.area.specs.Layout.{largestWeight}
+use Rattle.average.specs.Walk.{weightedTo}
+use Rattle.average.proofs.Walk.{length-small}
+use Rattle.average.proofs.Blocks.{weighted-past, weighted-limit}
+use Rattle.average.proofs.weighted_sum.Statement.{statement}
+use Rattle.average.proofs.weighted_sum.Tie as tie
+
+abbrev Inv-loop : tie.InvT-loop
+Inv-loop area weights readers lanes₀ sum₀ first₀ lanes sum first =
+    (first ≤ length weights + 7) × (length lanes ≡ 8288) × (sum ≡ weightedTo area weights first)
+
+abbrev μ-loop : tie.MeasureT-loop
+μ-loop area weights readers lanes₀ sum₀ first₀ lanes sum first = length weights - first
+
+count-readers-requires : tie.Need-count-readers-requires Inv-loop μ-loop
+count-readers-requires c κs = search needs
+
+loop-holds : tie.Need-loop-holds Inv-loop μ-loop
+unfolding weightedTo
+loop-holds c = (omega arith, length-replicate {A = ℕ} 8288 0, refl)
+
+weighted-block-requires : tie.Need-weighted-block-requires Inv-loop μ-loop
+weighted-block-requires c κs =
+    let s = c .before .before .before .before .before .before .before in
+    let a = c .before .before .before in
+    (s .pre .0, (a .before .count-readers .ensures, (s .pre .1, (omega arith, a .loop .inv .1))))
+
+-- the sum after one block more
+more : (c : tie.After-weighted-block Inv-loop μ-loop)
+    → c .before .before .before .before .loop .sum + c .weighted-block .result
+    ≡ weightedTo (c .before .before .before .before .before .before .before .before .args .area .now) (c .before .before .before .before .before .before .before .before .args .weights .now)
+    (c .before .before .before .before .loop .first + 8)
+more c =
+    let l = c .before .before .before .before .loop in
+    ap (λ (x : ℕ). x + c .weighted-block .result) (l .inv .2) ∙ c .weighted-block .ensures .0
+
+limit : (c : tie.After-weighted-block Inv-loop μ-loop) → c .before .before .before .before .loop .sum + c .weighted-block .result ≤ unitsInOne * (4096 * largestWeight)
+limit c =
+    let s = c .before .before .before .before .before .before .before .before in
+    rw (more c) (weighted-limit (s .args .area .now) (s .args .weights .now) _ (s .pre .0) (s .pre .1))
+
+add-sum : tie.Need-add-sum Inv-loop μ-loop
+add-sum c = omega (arith, limit c)
+
+add-first : tie.Need-add-first Inv-loop μ-loop
+add-first c =
+    let s = c .before .before .before .before .before .before .before .before in
+    omega (arith, length-small (s .args .area .now) (s .args .weights .now) (s .pre .0) (s .pre .1))
+
+loop-less : tie.Need-loop-less Inv-loop μ-loop
+loop-less c = omega arith
+
+loop-again : tie.Need-loop-again Inv-loop μ-loop
+loop-again c = (omega arith, c .weighted-block .ensures .1, more c)
+
+returns : tie.Need-returns Inv-loop μ-loop
+returns c =
+    let s = c .before .before .before .before .before in
+    c .before .loop .inv .2 ∙ weighted-past (s .args .area .now) (s .args .weights .now) (c .before .loop .first) (omega arith)
+
+pub weighted-sum-spec : {M : Type 1} → statement M
+weighted-sum-spec =
+    tie.close
+    (tie.spec
+    Inv-loop
+    μ-loop
+    count-readers-requires
+    loop-holds
+    weighted-block-requires
+    add-sum
+    add-first
+    loop-less
+    loop-again
+    returns)

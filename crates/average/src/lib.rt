@@ -1,0 +1,207 @@
+// The walk over all patterns of the call "average", on an area that keeps rule 14, and the test of the weights, refusal 12.
+ghost use mathlib.Core.Path.{_≡_};
+ghost use Prim.Native.Nat.{ℕ, _+_, _/_, _<_, _≤_};
+ghost use lib.ListN.{length, getD};
+ghost use Rattle.lists.specs.Lists.{sumBelow};
+ghost use Rattle.rounding.specs.Rounding.{unitsInOne};
+ghost use Rattle.lanes.specs.Lanes.{laneWord};
+ghost use Rattle.area.specs.Layout.{inputs, gates, outputWords};
+ghost use Rattle.lists.specs.Lists.{allZero};
+ghost use Rattle.area.specs.Rules.{Sound};
+ghost use Rattle.area.specs.Figures.{productFrom};
+ghost use Rattle.work.specs.Work.{workAll};
+ghost use Rattle.refusal.specs.declared.Judgement.the-variants.{Fine};
+ghost use Rattle.calls.specs.Judged.{weightsJudgement};
+ghost use Rattle.calls.specs.Calls.{averageOf};
+ghost use Rattle.average.specs.Weights.{weightsAnswer, FirstHeavy};
+ghost use Rattle.average.specs.Walk.{Fitting, weightedTo};
+ghost use Rattle.average.specs.Blocks.{ReadersOf, Block, OutputLanes};
+
+const LARGEST_WEIGHT: u32 = 1_048_575;
+
+// What weights are: fine, or refused with this place.
+pub enum WeightsJudged {
+    Fine,
+    Refused(u32),
+}
+
+// The lowest place of a weight that is too large; the length if there is none.
+fn first_heavy(weights: &[u32]) -> usize
+    ensures { λ r. ⌜ FirstHeavy (now (weights .entry)) r ⌝ }
+{
+    let mut q = 0;
+    while q < weights.len() {
+        if weights[q] > LARGEST_WEIGHT {
+            return q;
+        }
+        q += 1;
+    }
+    q
+}
+
+fn all_zero(weights: &[u32]) -> bool
+    ensures { λ r. ⌜ r ≡ allZero (now (weights .entry)) ⌝ }
+{
+    let mut q = 0;
+    while q < weights.len() {
+        if weights[q] != 0 {
+            return false;
+        }
+        q += 1;
+    }
+    true
+}
+
+// Refusal 12, in its order: the length, then the lowest weight that is too large, then no weight at all.
+pub fn judge_weights(inputs: usize, weights: &[u32]) -> WeightsJudged
+    requires { ⌜ inputs ≤ 12 ⌝ }
+    ensures { λ r. ⌜ r ≡ weightsAnswer (weightsJudgement inputs (now (weights .entry))) ⌝ }
+{
+    if weights.len() != 1 << inputs {
+        return WeightsJudged::Refused(0);
+    }
+    let heavy = first_heavy(weights);
+    if heavy < weights.len() {
+        return WeightsJudged::Refused(heavy as u32);
+    }
+    if all_zero(weights) {
+        return WeightsJudged::Refused(0);
+    }
+    WeightsJudged::Fine
+}
+
+fn total_weight(weights: &[u32]) -> u64
+    requires { ⌜ length (now weights) ≤ 4096 ⌝ }
+    ensures { λ r. ⌜ r ≡ sumBelow (length (now (weights .entry))) (λ q. getD (now (weights .entry)) q 0) ⌝ }
+{
+    let mut total = 0;
+    let mut q = 0;
+    while q < weights.len() {
+        total += weights[q] as u64;
+        q += 1;
+    }
+    total
+}
+
+// The reliability in one lane: the product over the outputs in order.
+fn lane_reliability(lanes: &[u32; 8288], area: &[u32], l: usize) -> u64
+    requires { ⌜ Sound (now area) ⌝ }
+    requires { ⌜ l < 8 ⌝ }
+    requires { ⌜ ((k : ℕ) → k < length (outputWords (now area)) → laneWord (now lanes) l (getD (outputWords (now area)) k 0) / 2 ≤ unitsInOne) ⌝ }
+    ensures { λ r. ⌜ r ≡ productFrom (laneWord (now (lanes .entry)) l) unitsInOne (outputWords (now (area .entry))) ⌝ }
+    ensures { λ r. ⌜ r ≤ unitsInOne ⌝ }
+{
+    let start = 8 + 8 * area[1] as usize;
+    let count = area[2] as usize;
+    let mut reliability = rounding::UNITS_IN_ONE;
+    let mut k = 0;
+    while k < count {
+        let word = lanes[8 * area[start + k] as usize + l];
+        reliability = figure::output_step(reliability, (word / 2) as u64);
+        k += 1;
+    }
+    reliability
+}
+
+// Where the block of eight patterns from `first` on ends: the last may be shorter.
+fn block_end(first: usize, patterns: usize) -> usize
+    requires { ⌜ (first ≤ patterns) × (patterns ≤ 4096) ⌝ }
+    ensures { λ r. ⌜ (first ≤ r) × (r ≤ patterns) × (r < patterns → r ≡ first + 8) ⌝ }
+{
+    if first + 8 < patterns {
+        first + 8
+    } else {
+        patterns
+    }
+}
+
+// What the eight patterns from `first` on add to the weighted sum.
+fn block_sum(lanes: &[u32; 8288], area: &[u32], first: usize, weights: &[u32]) -> u64
+    requires { ⌜ Sound (now area) ⌝ }
+    requires { ⌜ Fitting (inputs (now area)) (now weights) ⌝ }
+    requires { ⌜ (first < length (now weights)) ⌝ }
+    requires { ⌜ OutputLanes (now area) (now lanes) first ⌝ }
+    ensures { λ r. ⌜ weightedTo (now (area .entry)) (now (weights .entry)) first + r ≡ weightedTo (now (area .entry)) (now (weights .entry)) (first + 8) ⌝ }
+{
+    let mut sum = 0;
+    let mut l = 0;
+    while l < 8 {
+        if first + l < weights.len() {
+            sum += weights[first + l] as u64 * lane_reliability(lanes, area, l);
+        }
+        l += 1;
+    }
+    sum
+}
+
+// The lanes' words for the eight patterns from `first` on: the inputs', then those of the live gates in order. No live gate or output reads a dead gate.
+fn work_block(lanes: &mut [u32; 8288], area: &[u32], readers: &[u32; 1036], first: usize)
+    requires { ⌜ Sound (now area) ⌝ }
+    requires { ⌜ ReadersOf (now area) (now readers) ⌝ }
+    requires { ⌜ (first ≤ 4096) × (length (now lanes) ≡ 8288) ⌝ }
+    ensures { λ _. ⌜ Block (now (area .entry)) (now (readers .entry)) (now (lanes .exit)) first (gates (now (area .entry))) ⌝ }
+    ensures { λ _. ⌜ length (now (lanes .exit)) ≡ 8288 ⌝ }
+{
+    let n = area[0] as usize;
+    let count = area[1] as usize;
+    lanes::input_lanes(lanes, n, first);
+    let mut gate = 0;
+    while gate < count {
+        if 0 < readers[n + gate] {
+            lanes::work_row(lanes, area, n, 8 + 8 * gate, n + gate);
+        }
+        gate += 1;
+    }
+}
+
+// What the eight patterns from `first` on add to the weighted sum, worked out unless none of them has a weight.
+fn weighted_block(
+    lanes: &mut [u32; 8288],
+    area: &[u32],
+    readers: &[u32; 1036],
+    first: usize,
+    weights: &[u32],
+) -> u64
+    requires { ⌜ Sound (now area) ⌝ }
+    requires { ⌜ ReadersOf (now area) (now readers) ⌝ }
+    requires { ⌜ Fitting (inputs (now area)) (now weights) ⌝ }
+    requires { ⌜ (first < length (now weights)) × (length (now lanes) ≡ 8288) ⌝ }
+    ensures { λ r. ⌜ weightedTo (now (area .entry)) (now (weights .entry)) first + r ≡ weightedTo (now (area .entry)) (now (weights .entry)) (first + 8) ⌝ }
+    ensures { λ _. ⌜ length (now (lanes .exit)) ≡ 8288 ⌝ }
+{
+    let end = block_end(first, weights.len());
+    if all_zero(&weights[first..end]) {
+        return 0;
+    }
+    work_block(lanes, area, readers, first);
+    block_sum(lanes, area, first, weights)
+}
+
+// The weighted sum over all patterns, block by block. The area is only read: its words of figures may be those of another pattern.
+fn weighted_sum(area: &[u32], weights: &[u32]) -> u64
+    requires { ⌜ Sound (now area) ⌝ }
+    requires { ⌜ Fitting (inputs (now area)) (now weights) ⌝ }
+    ensures { λ r. ⌜ r ≡ weightedTo (now (area .entry)) (now (weights .entry)) (length (now (weights .entry))) ⌝ }
+{
+    let readers = live::count_readers(area);
+    let mut lanes = [0u32; 8288];
+    let mut sum = 0;
+    let mut first = 0;
+    while first < weights.len() {
+        sum += weighted_block(&mut lanes, area, &readers, first, weights);
+        first += 8;
+    }
+    sum
+}
+
+// The weighted average of the reliability over all patterns; the area's figures are worked out afresh for its own pattern.
+pub fn average(area: &mut [u32], weights: &[u32]) -> u32
+    requires { ⌜ Sound (now area) ⌝ }
+    requires { ⌜ weightsJudgement (inputs (now area)) (now weights) ≡ Fine ⌝ }
+    ensures { λ r. ⌜ r ≡ averageOf (now (area .entry)) (now (weights .entry)) ⌝ }
+    ensures { λ _. ⌜ now (area .exit) ≡ workAll (now (area .entry)) ⌝ }
+{
+    let sum = weighted_sum(area, weights);
+    work::work_all(area);
+    rounding::rounded(sum, total_weight(weights)) as u32
+}

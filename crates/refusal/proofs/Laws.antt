@@ -1,0 +1,91 @@
+-- The laws of judgements: what a whole says of its parts, the answer of a loop that stops at its first refusal, and numbers that are never given.
+-- Assumes nothing.
+use Prim.Native.Nat.{ℕ, zero, suc, _+_, _<_}
+use mathlib.Core.Path.{_≡_, refl, sym, ap, _∙_}
+use mathlib.Core.Bool.{Bool, true, false}
+use mathlib.Core.Logic.{_≢_, ⊎-elim}
+use native.Mathlib.Numerals.{add-one}
+use native.Mathlib.Omega.{arith}
+use native.Mathlib.Nat.{not-suc-le-zero, eq-or-lt-of-le}
+use Rattle.refusal.specs.declared.Judgement.{Judgement}
+use Rattle.refusal.specs.declared.Judgement.the-variants.{Fine, Refused}
+use Rattle.refusal.specs.Judgement.{refuseUnless, otherwise, lowest}
+
+-- no judgement is both
+pub never-both : {A : Type 0} (v : Judgement) (a p : ℕ) → v ≡ Fine → v ≡ Refused a p → A
+never-both v a p e f = let z : _≡_ {A = ℕ} 0 1 = cc in absurd (omega arith)
+
+pub refused-not-fine : {A : Type 0} (a p : ℕ) → Refused a p ≡ Fine → A
+refused-not-fine a p e = never-both Fine a p refl (sym e)
+
+-- no refusal of a whole means none of its parts
+pub unless-fine : (b : Bool) (a p : ℕ) → refuseUnless b a p ≡ Fine → b ≡ true
+unless-fine true a p e = refl
+unless-fine false a p e = cc
+
+pub otherwise-fine : (v w : Judgement) → otherwise v w ≡ Fine → (v ≡ Fine) × (w ≡ Fine)
+otherwise-fine Fine w e = (refl, e)
+otherwise-fine (Refused a p) w e = refused-not-fine a p e
+
+-- a first part without a refusal leaves the second
+pub otherwise-second : (v w : Judgement) → v ≡ Fine → otherwise v w ≡ w
+otherwise-second v w e = rw e
+
+pub otherwise-first : (v w : Judgement) (a p : ℕ) → v ≡ Refused a p → otherwise v w ≡ Refused a p
+otherwise-first v w a p e = rw e
+
+module _ (f : ℕ → Judgement) where
+  -- one place more without a refusal
+  pub lowest-more : (j : ℕ) → lowest f j ≡ Fine → f j ≡ Fine → lowest f (j + 1) ≡ Fine
+  lowest-more j e h = rw (add-one j, e) h
+
+  -- the first refusal is that of every longer list
+  pub lowest-refused : (k j a p : ℕ) → j < k → lowest f j ≡ Fine → f j ≡ Refused a p → lowest f k ≡ Refused a p
+  lowest-refused zero j a p l e h = absurd (not-suc-le-zero l)
+  lowest-refused (suc k) j a p l e h =
+      ⊎-elim (λ (q : j ≡ k). otherwise-at (rw q at e) (rw q at h))
+      (λ (q : j < k). otherwise-first (lowest f k) (f k) a p (lowest-refused k j a p q e h))
+      (eq-or-lt-of-le {n = j} {m = k} (omega arith))
+    where
+      otherwise-at : lowest f k ≡ Fine → f k ≡ Refused a p → otherwise (lowest f k) (f k) ≡ Refused a p
+      otherwise-at e′ h′ = otherwise-second (lowest f k) (f k) e′ ∙ h′
+
+  -- no refusal of the first k means none at each of them
+  pub lowest-fine : (k j : ℕ) → j < k → lowest f k ≡ Fine → f j ≡ Fine
+  lowest-fine zero j l e = absurd (not-suc-le-zero l)
+  lowest-fine (suc k) j l e =
+      let both = otherwise-fine (lowest f k) (f k) e in
+      ⊎-elim (λ (q : j ≡ k). rw q (both .1)) (λ (q : j < k). lowest-fine k j q (both .0)) (eq-or-lt-of-le {n = j} {m = k} (omega arith))
+
+  -- no refusal at each of the first k means none of them all
+  pub fine-lowest : (k : ℕ) → ((j : ℕ) → j < k → f j ≡ Fine) → lowest f k ≡ Fine
+  fine-lowest zero h = refl
+  fine-lowest (suc k) h =
+      otherwise-second (lowest f k) (f k) (fine-lowest k (λ j l. h j (omega arith))) ∙ h k (omega arith)
+
+  -- the answer of a loop that stops at its first refusal
+  pub lowest-answer : (k j a p : ℕ) → j < k → lowest f j ≡ Fine → f j ≡ Refused a p → Refused a p ≡ lowest f k
+  lowest-answer k j a p l e h = sym (lowest-refused k j a p l e h)
+
+-- a judgement that is no refusal with that number
+abbrev pub Never : ℕ → Judgement → Type 0
+Never n v = (place : ℕ) → v ≢ Refused n place
+
+abbrev number-of : Judgement → ℕ
+number-of Fine = 0
+number-of (Refused number place) = number
+
+pub never-fine : (n : ℕ) → Never n Fine
+never-fine n place e = never-both Fine n place refl e
+
+pub never-unless : (n : ℕ) (c : Bool) (a p : ℕ) → a ≢ n → Never n (refuseUnless c a p)
+never-unless n true a p other place e = never-fine n place e
+never-unless n false a p other place e = other (ap number-of e)
+
+pub never-otherwise : (n : ℕ) (v w : Judgement) → Never n v → Never n w → Never n (otherwise v w)
+never-otherwise n Fine w first second = second
+never-otherwise n (Refused a p) w first second = first
+
+pub never-lowest : (n : ℕ) (f : ℕ → Judgement) (k : ℕ) → ((i : ℕ) → Never n (f i)) → Never n (lowest f k)
+never-lowest n f zero each = never-fine n
+never-lowest n f (suc k) each = never-otherwise n (lowest f k) (f k) (never-lowest n f k each) (each k)

@@ -1,0 +1,39 @@
+-- `words::inverted_bit` meets its contract. Assumes nothing.
+use mathlib.Core.Path.{refl}
+use native.Mathlib.Omega.{arith}
+use borrow.Author.Tests.{eq-eqb, ne-eqb}
+use Rattle.work.specs.Work.{invertBit}
+use Rattle.work.proofs.Bit.{bit-is, bit-fits, bit-below}
+use borrow.Author.Needs.{needs}
+use Rattle.work.proofs.inverted_bit.Statement.{statement}
+use Rattle.work.proofs.inverted_bit.Tie as tie
+
+cast-bit : tie.Need-cast-bit
+cast-bit c = search needs
+
+shl-bit : tie.Need-shl-bit
+shl-bit c = search needs
+
+cast-if1 : tie.Need-cast-if1
+cast-if1 c = search needs
+
+shr-if1 : tie.Need-shr-if1
+shr-if1 c = search needs
+
+sub-result : tie.Need-sub-result
+sub-result c = rw (bit-is (c .before .args .input) (c .before .pre .0)) (bit-below (c .before .args .pattern) (c .before .args .input) (c .if1 .taken))
+
+add-result : tie.Need-add-result
+add-result c = rw (bit-is (c .before .args .input) (c .before .pre .0)) (omega (arith, bit-fits (c .before .args .input) (c .before .pre .0), c .before .pre .1))
+
+returns : tie.Need-returns
+unfolding invertBit
+returns c = rw (eq-eqb _ _ (c .if1 .taken), bit-is (c .before .args .input) (c .before .pre .0)) refl
+
+returns-2 : tie.Need-returns-2
+unfolding invertBit
+returns-2 c = rw (ne-eqb _ _ (c .if1 .left), bit-is (c .before .args .input) (c .before .pre .0)) refl
+
+pub inverted-bit-spec : {M : Type 1} → statement M
+inverted-bit-spec =
+    tie.close (tie.spec cast-bit shl-bit cast-if1 shr-if1 sub-result add-result returns returns-2)
