@@ -31,7 +31,7 @@ use Rattle.fresh.proofs.Calls.{frame-net}
 use Rattle.refusal.specs.declared.Judgement.the-variants.{Fine}
 use Rattle.refusal.specs.Judgement.{refuseUnless, lowest}
 use Rattle.calls.specs.Judged.{weightsJudgement}
-use Rattle.calls.specs.Calls.{reliabilityAt, averageOf}
+use Rattle.calls.specs.Calls.{reliabilityFor, averageOf}
 use Rattle.book.specs.Book.{Book}
 use Rattle.book.specs.Statement.{AverageWithin}
 use Rattle.book.proofs.Agree.{Agree, chance-scale-positive, same-input-count, well-formed}
@@ -57,20 +57,15 @@ no-zero-sum weights some =
     (λ pos. pos)
     (eq-zero-or-pos (sumBelow (length weights) (λ q. getD weights q 0)))
 
-pub total-positive : (net : Netlist) (weights : List ℕ) → weightsJudgement (net .inputs) weights ≡ Fine → 0 < totalWeight net weights
-unfolding weightsJudgement totalWeight
-total-positive net weights e =
-    let both = otherwise-fine (refuseUnless (eqb (length weights) (2 ^ net .inputs)) 12 0) _ e in
-    let long : length weights ≡ 2 ^ net .inputs = eqb-true _ _ (unless-fine _ 12 0 (both .0)) in
-    let later = otherwise-fine (lowest (λ q. refuseUnless (leb (getD weights q 0) 1_048_575) 12 q) (length weights)) _ (both .1) in
-    let some : allZero weights ≡ false = not-true _ (unless-fine _ 12 0 (later .1)) in
-    subst (λ (k : ℕ). 0 < sumBelow k (λ q. getD weights q 0)) long (no-zero-sum weights some)
+pub total-positive : (net : Netlist) (weights : List ℕ) → WeightsFit (net .inputs) weights → 0 < totalWeight net weights
+unfolding totalWeight
+total-positive net weights fit = subst (λ (k : ℕ). 0 < sumBelow k (λ q. getD weights q 0)) (fit .one-each) (no-zero-sum weights (fit .some))
 
-module _ (ws : List ℕ) (b : Book) (agree : Agree ws b) where
+module _ (size : ℕ) (ws : List ℕ) (b : Book) (agree : Agree size ws b) where
   -- with everything worked out afresh for another pattern, word 4 is that pattern's reliability
-  pub reliability-at : (q : ℕ) → q < 2 ^ inputs ws → reliabilityAt ws q ≡ reliability unitsInOne chanceScale (b .net) q
-  unfolding reliabilityAt
-  reliability-at q l =
+  pub reliability-for : (q : ℕ) → q < 2 ^ inputs ws → reliabilityFor ws q ≡ reliability unitsInOne chanceScale (b .net) q
+  unfolding reliabilityFor
+  reliability-for q l =
       let kinds = agree .kinds in
       let chances = agree .chances in
       let stored = set ws patternIndex q in
@@ -79,7 +74,7 @@ module _ (ws : List ℕ) (b : Book) (agree : Agree ws b) where
       let same = same-trans ws stored after (same-store-pattern ws q) (same-work-all stored) in
       let kept : pattern after ≡ q
       = work-all-other stored 3 (λ e. omega arith) (λ j from to e. omega arith)
-      ∙ getD-set-same ws patternIndex q 0 (omega (arith, agree .sound .long)) in
+      ∙ getD-set-same ws patternIndex q 0 (omega (arith, agree .sound .workable .net .long)) in
       let flips : (j : ℕ) → j < gates after → flip after j ≡ toUnits unitsInOne chanceScale (getD chances j 0)
       = λ j k.
       work-all-other stored (flipIndex j) (λ e. omega arith) (λ i from to e. omega arith)
@@ -91,15 +86,15 @@ module _ (ws : List ℕ) (b : Book) (agree : Agree ws b) where
   pub average-is : (weights : List ℕ) → averageOf ws weights ≡ averageUnits unitsInOne chanceScale (b .net) weights
   unfolding averageOf averageUnits totalWeight
   average-is weights =
-      let n = same-input-count ws b agree in
+      let n = same-input-count size ws b agree in
       ap₂ roundDiv
-      (sum-same (2 ^ inputs ws) (λ q. getD weights q 0 * reliabilityAt ws q) (λ q. getD weights q 0 * reliability unitsInOne chanceScale (b .net) q)
-      (λ q l. ap (λ (r : ℕ). getD weights q 0 * r) (reliability-at q l))
+      (sum-same (2 ^ inputs ws) (λ q. getD weights q 0 * reliabilityFor ws q) (λ q. getD weights q 0 * reliability unitsInOne chanceScale (b .net) q)
+      (λ q l. ap (λ (r : ℕ). getD weights q 0 * r) (reliability-for q l))
       ∙ ap (λ (k : ℕ). sumBelow (2 ^ k) (λ q. getD weights q 0 * reliability unitsInOne chanceScale (b .net) q)) n)
       (ap (λ (k : ℕ). sumBelow (2 ^ k) (λ q. getD weights q 0)) n)
 
-  pub average-within : (weights : List ℕ) → weightsJudgement (b .net .inputs) weights ≡ Fine → AverageWithin (averageOf ws weights) weights b
-  average-within weights e =
+  pub average-within : (weights : List ℕ) → WeightsFit (inputs ws) weights → AverageWithin (averageOf ws weights) weights b
+  average-within weights fit =
       subst (λ (units : ℕ). AverageWithin units weights b) (sym (average-is weights))
-      (average-bound unitsInOne chanceScale (omega arith) chance-scale-positive (b .net) (well-formed ws b agree) (agree .single) weights
-      (total-positive (b .net) weights e))
+      (average-bound unitsInOne chanceScale (omega arith) chance-scale-positive (b .net) (well-formed size ws b agree) (agree .single) weights
+      (total-positive (b .net) weights (subst (λ (n : ℕ). WeightsFit n weights) (same-input-count size ws b agree) fit)))

@@ -80,7 +80,7 @@ number-of (Refused number place) = number
 
 pub only-unless : (P : ℕ → Type 0) (c : Bool) (a p : ℕ) → P a → Only P (refuseUnless c a p)
 only-unless P true a p h = only-fine P
-only-unless P false a p h number place e = subst P (ap number-of e) h
+only-unless P false a p h = λ number place e. subst P (ap number-of e) h
 
 pub only-otherwise : (P : ℕ → Type 0) (v w : Judgement) → Only P v → Only P w → Only P (otherwise v w)
 only-otherwise P Fine w first second = second
