@@ -17,7 +17,7 @@ use Rattle.netlist.specs.Netlist.{Netlist}
 use Rattle.netlist.specs.Figures.{reliability}
 use Rattle.lists.specs.Lists.{sumBelow}
 use Rattle.netlist.specs.Average.{totalWeight, averageUnits}
-use Rattle.netlist.proofs.Live.{sum-same}
+use Rattle.lists.proofs.Sums.{sum-same}
 use Rattle.bound.proofs.Average.{average-bound}
 use Rattle.area.specs.Layout.{inputs, gates, patternIndex, pattern, flipIndex, flip}
 use Rattle.lists.specs.Lists.{allZero}
@@ -37,29 +37,10 @@ use Rattle.book.specs.Statement.{AverageWithin}
 use Rattle.book.proofs.Agree.{Agree, chance-scale-positive, same-input-count, well-formed}
 use Rattle.refusal.proofs.Laws.{unless-fine, otherwise-fine}
 
--- weights that are not all zero have a sum above 0
-zero-terms : (k : ℕ) (F : ℕ → ℕ) → sumBelow k F ≡ 0 → (j : ℕ) → j < k → F j ≡ 0
-zero-terms zero F e j l = absurd (omega arith)
-zero-terms (suc k) F e j l =
-    ⊎-elim (λ q. ap F q ∙ omega arith) (λ m. zero-terms k F (omega arith) j m) (eq-or-lt-of-le (le-of-suc-le-suc l))
-
-no-zero-sum : (weights : List ℕ) → allZero weights ≡ false → 0 < sumBelow (length weights) (λ q. getD weights q 0)
-no-zero-sum weights some =
-    ⊎-elim
-    (λ none.
-    let all : allZero weights ≡ true
-    = zero-passes weights (λ i.
-    by-cases (decLt i (length weights))
-    (zero-terms (length weights) (λ q. getD weights q 0) none i)
-    (λ past. List·getD-eq-default weights 0 (omega arith))) in
-    let z : _≡_ {A = ℕ} 0 1 = cc in
-    absurd (omega arith))
-    (λ pos. pos)
-    (eq-zero-or-pos (sumBelow (length weights) (λ q. getD weights q 0)))
-
+-- weights that pass have a sum above 0
 pub total-positive : (net : Netlist) (weights : List ℕ) → WeightsFit (net .inputs) weights → 0 < totalWeight net weights
 unfolding totalWeight
-total-positive net weights fit = subst (λ (k : ℕ). 0 < sumBelow k (λ q. getD weights q 0)) (fit .one-each) (no-zero-sum weights (fit .some))
+total-positive net weights fit = subst (λ (k : ℕ). 0 < sumBelow k (λ q. getD weights q 0)) (fit .one-each) (some-sum weights (fit .some))
 
 module _ (size : ℕ) (ws : List ℕ) (b : Book) (agree : Agree size ws b) where
   -- with everything worked out afresh for another pattern, word 4 is that pattern's reliability
@@ -88,7 +69,7 @@ module _ (size : ℕ) (ws : List ℕ) (b : Book) (agree : Agree size ws b) where
   average-is weights =
       let n = same-input-count size ws b agree in
       ap₂ roundDiv
-      (sum-same (2 ^ inputs ws) (λ q. getD weights q 0 * reliabilityFor ws q) (λ q. getD weights q 0 * reliability unitsInOne chanceScale (b .net) q)
+      (sum-same (λ q. getD weights q 0 * reliabilityFor ws q) (λ q. getD weights q 0 * reliability unitsInOne chanceScale (b .net) q) (2 ^ inputs ws)
       (λ q l. ap (λ (r : ℕ). getD weights q 0 * r) (reliability-for q l))
       ∙ ap (λ (k : ℕ). sumBelow (2 ^ k) (λ q. getD weights q 0 * reliability unitsInOne chanceScale (b .net) q)) n)
       (ap (λ (k : ℕ). sumBelow (2 ^ k) (λ q. getD weights q 0)) n)
