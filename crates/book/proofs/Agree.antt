@@ -1,25 +1,26 @@
 -- The words of an area agree with a book; and where they do, word 4 is within the bound. Assumes nothing.
 use Prim.Native.Nat.{ℕ, _≤_, _<_}
 use mathlib.Core.List.{List}
-use mathlib.Core.Path.{_≡_, sym, ap, ap₂, subst, _∙_}
+use mathlib.Core.Path.{_≡_, sym, ap, subst, _∙_}
 use native.Mathlib.Omega.{arith}
 use lib.ListN.{length, getD}
 use lib.Pow.{pow-pos}
+use borrow.Author.Tests.{le-leb}
 use Rattle.rounding.specs.Rounding.{unitsInOne}
 use Rattle.chance.specs.Number.{chanceScale}
 use Rattle.netlist.specs.Netlist.{Netlist}
 use Rattle.netlist.specs.WellFormed.{WellFormed}
-use Rattle.netlist.specs.Figures.{reliability}
 use Rattle.netlist.specs.Live.{SingleReaders}
 use Rattle.bound.proofs.Average.{reliability-bound}
-use Rattle.area.specs.Layout.{inputs, gates, pattern, reliabilityWord}
-use Rattle.area.specs.Rules.{Sound}
+use Rattle.area.specs.Layout.{inputs, gates, pattern, needed, outputs}
+use Rattle.area.specs.Rules.{Sound, NetSound, roomJudgement}
 use Rattle.area.specs.Net.{netOf}
 use Rattle.area.proofs.Net.{sound-net, gate-count}
 use Rattle.fresh.specs.Fresh.{Fresh, Converted}
-use Rattle.fresh.proofs.Bridge.{reliability-holds}
 use Rattle.book.specs.Book.{Book}
-use Rattle.book.specs.Statement.{WithinBound}
+use Rattle.book.specs.Statement.{WithinBound, Current}
+use Rattle.refusal.specs.declared.Judgement.the-variants.{Fine}
+use Rattle.refusal.specs.Judgement.{refuseUnless}
 
 -- the area has `size` words; beside the kinds and chances, which they do not hold, they have the book's netlist and pattern, and its figures are worked out
 pub record Agree (size : ℕ) (ws : List ℕ) (b : Book) : Type 0 where

@@ -1,41 +1,30 @@
 -- The average that a call answers is the netlist's, so it is within the bound of the average. Assumes nothing.
-use Prim.Native.Nat.{ℕ, zero, suc, _+_, _*_, _^_, _<_}
-use mathlib.Core.Bool.{true, false}
+use Prim.Native.Nat.{ℕ, _*_, _^_, _<_}
 use mathlib.Core.List.{List}
-use mathlib.Core.Logic.{⊎-elim, by-cases}
 use mathlib.Core.Path.{_≡_, sym, ap, ap₂, subst, _∙_}
-use native.Mathlib.Nat.{eq-or-lt-of-le, le-of-suc-le-suc, eq-zero-or-pos}
-use native.Mathlib.Decide.{decLt}
 use native.Mathlib.Omega.{arith}
-use lib.ListN.{length, getD, set, List·getD-eq-default}
-use lib.Dec.{eqb, leb}
+use lib.ListN.{getD, set}
 use lib.Seq.{getD-set-same, getD-set-other}
-use borrow.Author.Tests.{eqb-true, not-true}
 use Rattle.rounding.specs.Rounding.{unitsInOne, toUnits, roundDiv}
 use Rattle.chance.specs.Number.{chanceScale}
 use Rattle.netlist.specs.Netlist.{Netlist}
 use Rattle.netlist.specs.Figures.{reliability}
 use Rattle.lists.specs.Lists.{sumBelow}
 use Rattle.netlist.specs.Average.{totalWeight, averageUnits}
-use Rattle.lists.proofs.Sums.{sum-same}
+use Rattle.lists.proofs.Sums.{sum-same, some-sum}
 use Rattle.bound.proofs.Average.{average-bound}
 use Rattle.area.specs.Layout.{inputs, gates, patternIndex, pattern, flipIndex, flip}
-use Rattle.lists.specs.Lists.{allZero}
 use Rattle.work.specs.Work.{workAll}
 use Rattle.work.proofs.Frame.{same-gates, same-trans, same-store-pattern, same-work-all, work-all-other}
 use Rattle.work.proofs.Sound.{sound-store-pattern, sound-work-all}
-use Rattle.rules.proofs.Facts.{zero-passes}
 use Rattle.fresh.proofs.WorkAll.{work-all-fresh}
 use Rattle.fresh.proofs.Bridge.{reliability-holds}
 use Rattle.fresh.proofs.Calls.{frame-net}
-use Rattle.refusal.specs.declared.Judgement.the-variants.{Fine}
-use Rattle.refusal.specs.Judgement.{refuseUnless, lowest}
-use Rattle.calls.specs.Judged.{weightsJudgement}
 use Rattle.calls.specs.Calls.{reliabilityFor, averageOf}
 use Rattle.book.specs.Book.{Book}
 use Rattle.book.specs.Statement.{AverageWithin}
 use Rattle.book.proofs.Agree.{Agree, chance-scale-positive, same-input-count, well-formed}
-use Rattle.refusal.proofs.Laws.{unless-fine, otherwise-fine}
+use Rattle.calls.specs.Judgements.{WeightsFit}
 
 -- weights that pass have a sum above 0
 pub total-positive : (net : Netlist) (weights : List ℕ) → WeightsFit (net .inputs) weights → 0 < totalWeight net weights

@@ -6,15 +6,14 @@ use mathlib.Core.Logic.{by-cases}
 use mathlib.Core.Path.{_≡_, refl, sym, ap, subst, _∙_}
 use native.Mathlib.Decide.{ℕ-discrete}
 use native.Mathlib.Omega.{arith}
-use lib.Dec.{ltb}
-use lib.ListN.{length, getD, set, length-set}
+use lib.ListN.{getD, set, length-set}
 use lib.Seq.{getD-set-same, getD-set-other}
 use Rattle.chance.specs.Number.{chanceScale}
 use Rattle.chance.specs.Flip.{flipAccepted, flipChance}
 use Rattle.chance.proofs.Laws.{flip-chance-at-most, flip-units-at-most}
 use Rattle.netlist.specs.Netlist.{Netlist}
 use Rattle.netlist.specs.Live.{SingleReaders}
-use Rattle.area.specs.Layout.{inputs, gates}
+use Rattle.area.specs.Layout.{inputs, gates, pattern}
 use Rattle.work.specs.Work.{invertBit, toggleWords, setWords}
 use Rattle.work.proofs.Frame.{same-gates, same-toggle, same-set}
 use Rattle.work.proofs.Sound.{sound-toggle, sound-set}
@@ -22,18 +21,16 @@ use Rattle.area.specs.Net.{netOf}
 use Rattle.area.proofs.Net.{same-single-readers}
 use Rattle.fresh.proofs.Calls.{toggle-net, toggle-pattern, toggle-fresh, toggle-converted, set-net, set-pattern, set-fresh, set-converted}
 use Rattle.fresh.proofs.Unique.{fresh-fixed}
-use Rattle.refusal.specs.Judgement.{otherwise}
-use Rattle.refusal.proofs.Laws.{unless-fine, otherwise-fine}
-use Rattle.calls.specs.Judged.{named, flipJudgement, weightsJudgement, toggleJudgement, setJudgement, gateJudgement, averageJudgement}
-use Rattle.calls.specs.Calls.{open-image, toggle-input, set-flip, read-netlist, read-gate, take-average, flipUnits}
-use Rattle.book.specs.Book.{Book, withFlip, entered}
-use Rattle.book.proofs.Agree.{Agree, same-input-count, same-gate-count}
-use Rattle.book.proofs.Judged.{area-fine, area-passes, named-below, never-unless, never-open, never-weights}
-use Rattle.refusal.proofs.Laws.{never-fine, never-otherwise}
-use Rattle.book.proofs.Shown.{Shown}
+use Rattle.calls.specs.Calls.{open-image, toggle-input, set-flip, read-netlist, read-gate, take-average, flipUnits, openWords, work}
+use Rattle.book.specs.Book.{Book, withFlip, entered, imageBook}
+use Rattle.book.proofs.Agree.{Agree}
+use Rattle.book.proofs.Shown.{Shown, Lent, shown-lent}
 use Rattle.book.proofs.Flip.{flip-net}
 use Rattle.book.proofs.Average.{average-within}
 use Rattle.book.proofs.Open.{opened}
+use Rattle.book.specs.Statement.{AnswerKept}
+use Rattle.calls.specs.Judgements.{Call, argumentJudgement, openJudgement}
+use Rattle.calls.proofs.Judgements.{named-fine, only-open, set-fine, weights-fine}
 
 pub shown-open : (bs : List ℕ) → Shown (open-image bs)
 shown-open bs =

@@ -1,9 +1,8 @@
 -- What must be shown of a call so that it can stand in the list; of a call on an open area less, since they are all judged alike. Assumes nothing.
 use Prim.Native.Nat.{ℕ}
 use mathlib.Core.List.{List}
-use mathlib.Core.Path.{_≡_, refl, sym, ap, ap₂, _∙_}
+use mathlib.Core.Path.{_≡_, sym, ap₂, _∙_}
 use lib.ListN.{length}
-use Rattle.refusal.specs.declared.Judgement.{Judgement}
 use Rattle.refusal.specs.declared.Judgement.the-variants.{Fine}
 use Rattle.refusal.proofs.Laws.{otherwise-fine, otherwise-second, Only, BelowRule, only-otherwise}
 use Rattle.area.specs.Layout.{inputs, gates}
