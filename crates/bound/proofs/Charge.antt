@@ -16,7 +16,7 @@ use Rattle.lists.proofs.Every.{below-tail, AllFrom, all-head, all-tail}
 use Rattle.netlist.specs.Netlist.{Gate, noGate}
 use Rattle.netlist.specs.WellFormed.{pinsBelow}
 use Rattle.netlist.specs.Live.{isLive, withGate, liveReadsFrom, liveAmong}
-use Rattle.netlist.proofs.Live.{ifLive, count-later, among-step}
+use Rattle.netlist.proofs.Live.{ifLive, reads-with, count-later, among-step}
 use Rattle.bound.proofs.Rounded.{failing}
 use Rattle.bound.proofs.Replace.{charges}
 
@@ -25,11 +25,7 @@ failing-append m [] ys = omega arith
 failing-append m (x ∷ xs) ys = omega (arith, failing-append m xs ys)
 
 pub failing-with : (m : ℕ → Bool) (s : ℕ) (ps rs : List ℕ) → failing m (withGate s ps rs) ≡ ifLive (count s rs) (failing m ps) + failing m rs
-failing-with m s ps rs = go (count s rs)
-  where
-    go : (c : ℕ) → failing m (cond (isLive c) (ps ++ rs) rs) ≡ ifLive c (failing m ps) + failing m rs
-    go zero = omega arith
-    go (suc c) = failing-append m ps rs
+failing-with m = reads-with (failing m) (failing-append m)
 
 -- two half units for each live gate and one for each live read of a source that may fail
 pub charge-total : (m : ℕ → Bool) (outputs : List ℕ) (s : ℕ) (gs : List Gate)
@@ -61,15 +57,15 @@ live-total outputs s (g ∷ gs) below =
 -- m says of a source that it may fail
 module _ (m : ℕ → Bool) where
   -- the sources of m from s on
-  abbrev pub from : ℕ → ℕ → Bool
-  from s t = cond (leb s t) (m t) false
+  abbrev pub sourcesFrom : ℕ → ℕ → Bool
+  sourcesFrom s t = cond (leb s t) (m t) false
 
   -- the live ones of these gates that m has
   abbrev pub liveWhere : List ℕ → ℕ → List Gate → ℕ
   liveWhere outputs s [] = 0
   liveWhere outputs s (g ∷ gs) = cond (m s) (ifLive (count s (liveReadsFrom outputs (suc s) gs)) 1) 0 + liveWhere outputs (suc s) gs
 
-  from-below : (s : ℕ) (ps : List ℕ) → Below s ps → failing (from s) ps ≡ 0
+  from-below : (s : ℕ) (ps : List ℕ) → Below s ps → failing (sourcesFrom s) ps ≡ 0
   from-below s [] below = refl
   from-below s (p ∷ ps) below =
       ap₂ _+_ (ap (λ (c : Bool). bitOf (cond c (m p) false)) (lt-leb s p (below 0 (omega arith)))) (from-below s ps (below-tail s p ps below))
@@ -79,7 +75,7 @@ module _ (m : ℕ → Bool) where
   none false = refl
 
   -- the reads from s on are those of s and those from s + 1 on
-  from-next : (s : ℕ) (rs : List ℕ) → failing (from s) rs ≡ cond (m s) (count s rs) 0 + failing (from (suc s)) rs
+  from-next : (s : ℕ) (rs : List ℕ) → failing (sourcesFrom s) rs ≡ cond (m s) (count s rs) 0 + failing (sourcesFrom (suc s)) rs
   from-next s [] = omega (arith, none (m s))
   from-next s (r ∷ rs) = omega (arith, from-next s rs, one, add (m s))
     where
@@ -89,13 +85,13 @@ module _ (m : ℕ → Bool) where
 
       at : (a b e : Bool) → leb s r ≡ a → leb (suc s) r ≡ b → eqb s r ≡ e
           → bitOf (cond a (m r) false) ≡ cond (m s) (bitOf e) 0 + bitOf (cond b (m r) false)
-          → bitOf (from s r) ≡ cond (m s) (bitOf (eqb s r)) 0 + bitOf (from (suc s) r)
+          → bitOf (sourcesFrom s r) ≡ cond (m s) (bitOf (eqb s r)) 0 + bitOf (sourcesFrom (suc s) r)
       at a b e p q k h =
           ap (λ (x : Bool). bitOf (cond x (m r) false)) p
           ∙ h
           ∙ sym (ap₂ (λ (x y : Bool). cond (m s) (bitOf x) 0 + bitOf (cond y (m r) false)) k q)
 
-      one : bitOf (from s r) ≡ cond (m s) (bitOf (eqb s r)) 0 + bitOf (from (suc s) r)
+      one : bitOf (sourcesFrom s r) ≡ cond (m s) (bitOf (eqb s r)) 0 + bitOf (sourcesFrom (suc s) r)
       one =
           by-cases
           (decLe s r)
@@ -110,7 +106,7 @@ module _ (m : ℕ → Bool) where
   -- where each gate that may fail is read at most once, there is at most one read of such a gate for each live one
   pub one-each-where : (outputs : List ℕ) (s : ℕ) (gs : List Gate) → AllFrom noGate pinsBelow s gs → Below (s + length gs) outputs
       → ((t : ℕ) → s ≤ t → t < s + length gs → m t ≡ true → count t (liveReadsFrom outputs s gs) ≤ 1)
-      → failing (from s) (liveReadsFrom outputs s gs) ≤ liveWhere outputs s gs
+      → failing (sourcesFrom s) (liveReadsFrom outputs s gs) ≤ liveWhere outputs s gs
   one-each-where outputs s [] below outs single = omega (arith, from-below s outputs (λ i l. omega (arith, outs i l)))
   one-each-where outputs s (g ∷ gs) below outs single =
       let later = liveReadsFrom outputs (suc s) gs in
@@ -126,8 +122,8 @@ module _ (m : ℕ → Bool) where
       (λ t l k h. omega (arith, single t (omega arith) (omega arith) h, same t (omega arith))) in
       omega (
         arith,
-        failing-with (from s) s (g .pins) later,
-        nothing (count s later) (failing (from s) (g .pins)) (from-below s (g .pins) pins),
+        failing-with (sourcesFrom s) s (g .pins) later,
+        nothing (count s later) (failing (sourcesFrom s) (g .pins)) (from-below s (g .pins) pins),
         from-next s later,
         once (m s) (count s later) (λ h. omega (arith, single s (le-refl s) (omega arith) h, same s (le-refl s))),
       )
@@ -147,7 +143,7 @@ pub one-each : (outputs : List ℕ) (s : ℕ) (gs : List Gate) → AllFrom noGat
     → failing (leb s) (liveReadsFrom outputs s gs) ≤ charges outputs (λ g. 1) s gs
 one-each outputs s gs below outs single =
     let rs = liveReadsFrom outputs s gs in
-    let all : failing (from (λ t. true) s) rs ≡ failing (leb s) rs = ap (λ (m : ℕ → Bool). failing m rs) (fun-ext (λ t. same (leb s t))) in
+    let all : failing (sourcesFrom (λ t. true) s) rs ≡ failing (leb s) rs = ap (λ (m : ℕ → Bool). failing m rs) (fun-ext (λ t. same (leb s t))) in
     omega (arith, live s gs, one-each-where (λ t. true) outputs s gs below outs (λ t l k h. at t (t - s) (omega arith) (omega arith)))
   where
     same : (b : Bool) → cond b true false ≡ b

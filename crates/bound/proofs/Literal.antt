@@ -90,21 +90,21 @@ wrong-next rs s vs e size h v b here i l = ⊎-elim last earlier (eq-or-lt-of-le
         ∙ ap (λ (c : Bool). invertIf c (getD rs i false)) (sym (upd-other e s i b (λ q. omega arith)))
 
 module _ (u d : ℕ) (outputs : List ℕ) (rs : List Bool) where
-  abbrev pub allRight : List Gate → List Bool → List Bool → Bool
-  allRight gs vs flips = outputsAgree outputs (values gs flips vs) rs
+  abbrev pub outputsRight : List Gate → List Bool → List Bool → Bool
+  outputsRight gs vs flips = outputsAgree outputs (values gs flips vs) rs
 
   -- the chances of the flip patterns of these gates under which every output is right, from the values vs
   abbrev pub flipSum : List Gate → List Bool → ℕ
-  flipSum gs vs = sumOverFlips (length gs) (λ flips. cond (allRight gs vs flips) (patternChance d gs flips) 0)
+  flipSum gs vs = sumOverFlips (length gs) (λ flips. cond (outputsRight gs vs flips) (patternChance d gs flips) 0)
 
   -- the sum over errors of the gates from source s on, from errors of the sources before them
   abbrev pub errorsFrom : ℕ → List Gate → (ℕ → Bool) → ℕ
   errorsFrom = sumFrom outputs (ifRight 1) (λ t. rightGiven u d rs) (λ t. wrongGiven u d rs)
 
   flips-scale : (gs : List Gate) (vs : List Bool) (c : ℕ)
-      → sumOverFlips (length gs) (λ flips. cond (allRight gs vs flips) (c * patternChance d gs flips) 0) ≡ c * flipSum gs vs
+      → sumOverFlips (length gs) (λ flips. cond (outputsRight gs vs flips) (c * patternChance d gs flips) 0) ≡ c * flipSum gs vs
   flips-scale gs vs c =
-      ap (sumOverFlips (length gs)) (fun-ext (λ flips. cond-scale (allRight gs vs flips) c (patternChance d gs flips))) ∙ sum-scale (length gs) c _
+      ap (sumOverFlips (length gs)) (fun-ext (λ flips. cond-scale (outputsRight gs vs flips) c (patternChance d gs flips))) ∙ sum-scale (length gs) c _
 
   flips-first : (g : Gate) (gs : List Gate) (vs : List Bool)
       → flipSum (g ∷ gs) vs

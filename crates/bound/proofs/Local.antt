@@ -90,7 +90,8 @@ module _ (u d : ℕ) (posu : 0 < u) (posd : 0 < d) (fs : List ℕ) (small : (s :
       let p = toUnits u d c in
       let moves : List Bool → ℕ = λ bs. bitOf (not (still bs)) in
       let stays : List Bool → ℕ = λ bs. bitOf (still bs) in
-      let m-most : m ≤ u = fold-at-most u u posu (map f ps) (map-all 0 (λ x. x ≤ u) (omega arith) f small ps) W (λ bs. start-at-most u (still bs)) in
+      let pins-most : (i : ℕ) → getD (map f ps) i 0 ≤ u = map-all 0 (λ x. x ≤ u) (omega arith) f ps (λ i l. small (getD ps i 0)) in
+      let m-most : m ≤ u = fold-at-most u u posu (map f ps) pins-most W (λ bs. start-at-most u (still bs)) in
       let p-most : p ≤ u = units-at-most u d c posd hc in
       let whole : foldBits r w ps moves + foldBits r w ps stays ≡ x
       = sym (bits-add r w ps moves stays)
