@@ -117,10 +117,10 @@ module _ {B : Type 0} (z : B) (Q : B → Type 0) (base : Q z) where
   snoc-all (x ∷ xs) h y hy zero = h 0
   snoc-all (x ∷ xs) h y hy (suc i) = snoc-all xs (λ k. h (suc k)) y hy i
 
-  pub map-all : (f : ℕ → B) → ((p : ℕ) → Q (f p)) → (ps : List ℕ) (i : ℕ) → Q (getD (map f ps) i z)
-  map-all f h [] i = base
-  map-all f h (p ∷ ps) zero = h p
-  map-all f h (p ∷ ps) (suc i) = map-all f h ps i
+  pub map-all : (f : ℕ → B) (ps : List ℕ) → ((i : ℕ) → i < length ps → Q (f (getD ps i 0))) → (i : ℕ) → Q (getD (map f ps) i z)
+  map-all f [] h i = base
+  map-all f (p ∷ ps) h zero = h 0 (omega arith)
+  map-all f (p ∷ ps) h (suc i) = map-all f ps (λ k l. h (suc k) (omega arith)) i
 
 -- functions that agree at every entry have the same map
 pub map-same : {B : Type 0} (f g : ℕ → B) (ps : List ℕ) → ((i : ℕ) → i < length ps → f (getD ps i 0) ≡ g (getD ps i 0)) → map f ps ≡ map g ps

@@ -128,7 +128,7 @@ gate-at-most u d posu posd vs g hc fs hf =
     (pinValues vs (g .pins))
     (pinFailures fs (g .pins))
     (length-map (g .pins) (λ (p : ℕ). getD vs p false) ∙ sym (length-map (g .pins) (λ (p : ℕ). getD fs p 0)))
-    (map-all 0 (λ (f : ℕ). f ≤ u) (omega arith) (λ (p : ℕ). getD fs p 0) hf (g .pins))
+    (map-all 0 (λ (f : ℕ). f ≤ u) (omega arith) (λ (p : ℕ). getD fs p 0) (g .pins) (λ i l. hf (getD (g .pins) i 0)))
 
 -- every failure is at most u
 pub failures-at-most : (u d : ℕ) → 0 < u → 0 < d → (net : Netlist) → WellFormed d net → (q s : ℕ) → getD (failures u d net q) s 0 ≤ u

@@ -5,7 +5,7 @@ use mathlib.Core.Bool.{cond}
 use mathlib.Core.List.{List, [], _∷_, _++_}
 use mathlib.Core.Path.{_≡_, refl, sym, ap, ap₂, _∙_}
 use mathlib.Core.Logic.{_⊎_, inl, inr, ⊎-elim}
-use native.Mathlib.Nat.{le-refl, add-zero, eq-zero-or-pos}
+use native.Mathlib.Nat.{le-refl, add-zero, zero-add, eq-zero-or-pos}
 use native.Mathlib.Omega.{arith}
 use lib.ListN.{length, getD, drop}
 use lib.Seq.{drop-cons}
@@ -23,12 +23,17 @@ use Rattle.netlist.specs.Live.{Live, output-reads, gate-reads, Depends, 
 abbrev pub ifLive : ℕ → ℕ → ℕ
 ifLive r k = cond (isLive r) k 0
 
-pub count-with : (t s : ℕ) (ps rs : List ℕ) → count t (withGate s ps rs) ≡ ifLive (count s rs) (count t ps) + count t rs
-count-with t s ps rs = go (count s rs)
+-- whatever is counted of reads, a gate adds what its pins have if it is live
+pub reads-with : (size : List ℕ → ℕ) → ((xs ys : List ℕ) → size (xs ++ ys) ≡ size xs + size ys) → (s : ℕ) (ps rs : List ℕ)
+    → size (withGate s ps rs) ≡ ifLive (count s rs) (size ps) + size rs
+reads-with size adds s ps rs = go (count s rs)
   where
-    go : (c : ℕ) → count t (cond (isLive c) (ps ++ rs) rs) ≡ ifLive c (count t ps) + count t rs
-    go zero = omega arith
-    go (suc c) = count-append t ps rs
+    go : (c : ℕ) → size (cond (isLive c) (ps ++ rs) rs) ≡ ifLive c (size ps) + size rs
+    go zero = sym (zero-add (size rs))
+    go (suc c) = adds ps rs
+
+pub count-with : (t s : ℕ) (ps rs : List ℕ) → count t (withGate s ps rs) ≡ ifLive (count s rs) (count t ps) + count t rs
+count-with t = reads-with (count t) (count-append t)
 
 -- a gate adds no read of itself or a later gate
 pub count-later : (t s : ℕ) (ps rs : List ℕ) → Below s ps → s ≤ t → count t (withGate s ps rs) ≡ count t rs

@@ -1,4 +1,4 @@
--- The exact sum and the exact average of document 01, as whole numbers with the denominators multiplied out. Chances are whole numbers of 1 / d.
+-- The exact sum of document 01, a whole number with the denominators multiplied out. Chances are whole numbers of 1 / d.
 use Prim.Native.Nat.{ℕ, zero, suc, _+_, _-_, _*_}
 use mathlib.Core.Bool.{Bool, true, false, cond, _&&_, Bool·beq}
 use mathlib.Core.List.{List, [], _∷_}
