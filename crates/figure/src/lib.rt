@@ -15,13 +15,13 @@ ghost use Rattle.figure.specs.Steps.{firstPins, room, spreadPin, differs
 fn spread_pin(
     indices: [u32; 16],
     used: usize,
-    words: [u32; 4],
-    bits: [u32; 4],
+    words: &[u32; 4],
+    bits: &[u32; 4],
     pin: usize,
 ) -> [u32; 16]
     requires { ⌜ (0 < used) × (used ≤ 8) × (pin < 4) ⌝ }
-    requires { ⌜ ((i : ℕ) → i < used → getD indices i 0 + getD bits pin 0 ≤ 15) ⌝ }
-    ensures { λ r. ⌜ take (2 * used) r ≡ spreadPin (getD words pin 0) (getD bits pin 0) (take used indices) ⌝ }
+    requires { ⌜ ((i : ℕ) → i < used → getD indices i 0 + getD (now bits) pin 0 ≤ 15) ⌝ }
+    ensures { λ r. ⌜ take (2 * used) r ≡ spreadPin (getD (now (words .entry)) pin 0) (getD (now (bits .entry)) pin 0) (take used indices) ⌝ }
 {
     let bit = bits[pin];
     let right = words[pin] % 2 * bit;
@@ -76,10 +76,10 @@ fn start_values(table: u32, indices: [u32; 16], used: usize) -> [u64; 16]
 
 // Step 2 of the figures for one pin: of the first 2 × half values each pair (pin right, pin wrong) becomes one, and half as many are
 // in use.
-fn fold_step(values: [u64; 16], half: usize, words: [u32; 4], pin: usize) -> [u64; 16]
-    requires { ⌜ (half ≤ 8) × (pin < 4) × (failureOf (getD words pin 0) ≤ unitsInOne) ⌝ }
+fn fold_step(values: [u64; 16], half: usize, words: &[u32; 4], pin: usize) -> [u64; 16]
+    requires { ⌜ (half ≤ 8) × (pin < 4) × (failureOf (getD (now words) pin 0) ≤ unitsInOne) ⌝ }
     requires { ⌜ ((i : ℕ) → i < 2 * half → getD values i 0 ≤ unitsInOne) ⌝ }
-    ensures { λ r. ⌜ take half r ≡ foldStep unitsInOne (failureOf (getD words pin 0)) (take (2 * half) values) ⌝ }
+    ensures { λ r. ⌜ take half r ≡ foldStep unitsInOne (failureOf (getD (now (words .entry)) pin 0)) (take (2 * half) values) ⌝ }
     ensures { λ r. ⌜ ((i : ℕ) → i < half → getD r i 0 ≤ unitsInOne) ⌝ }
 {
     let failure = (words[pin] / 2) as u64;
@@ -133,6 +133,8 @@ pub fn word_one(table: u32, start: u32, words: [u32; 4], bits: [u32; 4], flip: u
     requires { ⌜ ((i : ℕ) → i < 1 → failureOf (getD words i 0) ≤ unitsInOne) ⌝ }
     ensures { λ r. ⌜ r ≡ pinsWord unitsInOne table start (firstPins 1 words bits) flip ⌝ }
 {
+    let words = &words;
+    let bits = &bits;
     let at = spread_pin([start; 16], 1, words, bits, 0);
     let values = start_values(table, at, 2);
     let values = fold_step(values, 1, words, 0);
@@ -144,6 +146,8 @@ pub fn word_two(table: u32, start: u32, words: [u32; 4], bits: [u32; 4], flip: u
     requires { ⌜ ((i : ℕ) → i < 2 → failureOf (getD words i 0) ≤ unitsInOne) ⌝ }
     ensures { λ r. ⌜ r ≡ pinsWord unitsInOne table start (firstPins 2 words bits) flip ⌝ }
 {
+    let words = &words;
+    let bits = &bits;
     let at = spread_pin([start; 16], 1, words, bits, 1);
     let at = spread_pin(at, 2, words, bits, 0);
     let values = start_values(table, at, 4);
@@ -157,6 +161,8 @@ pub fn word_three(table: u32, start: u32, words: [u32; 4], bits: [u32; 4], flip:
     requires { ⌜ ((i : ℕ) → i < 3 → failureOf (getD words i 0) ≤ unitsInOne) ⌝ }
     ensures { λ r. ⌜ r ≡ pinsWord unitsInOne table start (firstPins 3 words bits) flip ⌝ }
 {
+    let words = &words;
+    let bits = &bits;
     let at = spread_pin([start; 16], 1, words, bits, 2);
     let at = spread_pin(at, 2, words, bits, 1);
     let at = spread_pin(at, 4, words, bits, 0);
@@ -172,6 +178,8 @@ pub fn word_four(table: u32, start: u32, words: [u32; 4], bits: [u32; 4], flip: 
     requires { ⌜ ((i : ℕ) → i < 4 → failureOf (getD words i 0) ≤ unitsInOne) ⌝ }
     ensures { λ r. ⌜ r ≡ pinsWord unitsInOne table start (firstPins 4 words bits) flip ⌝ }
 {
+    let words = &words;
+    let bits = &bits;
     let at = spread_pin([start; 16], 1, words, bits, 3);
     let at = spread_pin(at, 2, words, bits, 2);
     let at = spread_pin(at, 4, words, bits, 1);

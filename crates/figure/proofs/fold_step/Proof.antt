@@ -9,18 +9,18 @@ use Rattle.figure.proofs.fold_step.Statement.{statement}
 use Rattle.figure.proofs.fold_step.Tie as tie
 
 abbrev Inv-loop : tie.InvT-loop
-Inv-loop half pin failure values₀ i₀ values i =
+Inv-loop half words pin failure values₀ i₀ values i =
     (i ≤ half) × FoldedTo unitsInOne failure values₀ values i
 
 abbrev μ-loop : tie.MeasureT-loop
-μ-loop half pin failure values₀ i₀ values i =
+μ-loop half words pin failure values₀ i₀ values i =
     half - i
 
 mul-failure : tie.Need-mul-failure Inv-loop μ-loop
 mul-failure c = search needs
 
-array-read-failure : tie.Need-array-read-failure Inv-loop μ-loop
-array-read-failure c = search needs
+element-copy-out-failure : tie.Need-element-copy-out-failure Inv-loop μ-loop
+element-copy-out-failure c = search needs
 
 cast-failure : tie.Need-cast-failure Inv-loop μ-loop
 cast-failure c = search needs
@@ -53,9 +53,9 @@ blended-requires : tie.Need-blended-requires Inv-loop μ-loop
 blended-requires c κs =
     let i = c .before .loop .i in
     let s = c .before .loop .inv .1 in
-    let fits = c .before .before .pre .1 in (
+    let fits = c .before .before .before .pre .1 in (
       rw (s .rest (2 * i) (omega arith)) (fits (2 * i) (omega arith)),
-      (rw (s .rest (2 * i + 1) (omega arith)) (fits (2 * i + 1) (omega arith)), c .before .before .pre .0 .2),
+      (rw (s .rest (2 * i + 1) (omega arith)) (fits (2 * i + 1) (omega arith)), c .before .before .before .pre .0 .2),
     )
 
 mul-values : tie.Need-mul-values Inv-loop μ-loop
@@ -75,9 +75,9 @@ loop-again c = (omega arith, rw (c .blended .ensures) (turn (c .before .before .
 
 returns : tie.Need-returns Inv-loop μ-loop
 returns c =
-    let end : c .before .loop .i ≡ c .before .before .args .half = omega arith in
+    let end : c .before .loop .i ≡ c .before .before .before .args .half = omega arith in
     let done = rw end at (c .before .loop .inv .1) in
-    (folded done (omega arith), folded-fits done (omega arith) (c .before .before .pre .0 .2) (c .before .before .pre .1))
+    (folded done (omega arith), folded-fits done (omega arith) (c .before .before .before .pre .0 .2) (c .before .before .before .pre .1))
 
 pub fold-step-spec : {M : Type 1} → statement M
 fold-step-spec =
@@ -86,7 +86,7 @@ fold-step-spec =
     Inv-loop
     μ-loop
     mul-failure
-    array-read-failure
+    element-copy-out-failure
     cast-failure
     loop-holds
     mul-blended

@@ -11,30 +11,30 @@ use Rattle.figure.proofs.spread_pin.Statement.{statement}
 use Rattle.figure.proofs.spread_pin.Tie as tie
 
 abbrev Inv-loop : tie.InvT-loop
-Inv-loop used pin indices bit right wrong spread₀ i₀ spread i =
+Inv-loop used words bits pin indices bit right wrong spread₀ i₀ spread i =
     (i ≤ used) × (length spread ≡ 16) × (take (2 * i) spread ≡ spreadStep right wrong (take i indices))
 
 abbrev μ-loop : tie.MeasureT-loop
-μ-loop used pin indices bit right wrong spread₀ i₀ spread i =
+μ-loop used words bits pin indices bit right wrong spread₀ i₀ spread i =
     used - i
 
 mul-bit : tie.Need-mul-bit Inv-loop μ-loop
 mul-bit c = search needs
 
-array-read-bit : tie.Need-array-read-bit Inv-loop μ-loop
-array-read-bit c = search needs
+element-copy-out-bit : tie.Need-element-copy-out-bit Inv-loop μ-loop
+element-copy-out-bit c = search needs
 
 mul-right : tie.Need-mul-right Inv-loop μ-loop
 mul-right c = search needs
 
-array-read-right : tie.Need-array-read-right Inv-loop μ-loop
-array-read-right c = search needs
+element-copy-out-right : tie.Need-element-copy-out-right Inv-loop μ-loop
+element-copy-out-right c = search needs
 
 mul-right-2 : tie.Need-mul-right-2 Inv-loop μ-loop
-mul-right-2 c = omega (arith, c .pre .1 0 (omega arith), added (getD (c .args .t3) (c .args .pin) 0) (getD (c .args .t4) (c .args .pin) 0))
+mul-right-2 c = omega (arith, c .before .before .pre .1 0 (omega arith), added (getD (c .before .before .args .words .now) (c .before .before .args .pin) 0) (getD (c .before .before .args .bits .now) (c .before .before .args .pin) 0))
 
 sub-wrong : tie.Need-sub-wrong Inv-loop μ-loop
-sub-wrong c = added (getD (c .args .t3) (c .args .pin) 0) (getD (c .args .t4) (c .args .pin) 0)
+sub-wrong c = added (getD (c .before .before .args .words .now) (c .before .before .args .pin) 0) (getD (c .before .before .args .bits .now) (c .before .before .args .pin) 0)
 
 loop-holds : tie.Need-loop-holds Inv-loop μ-loop
 loop-holds c = (omega arith, refl, refl)
@@ -47,8 +47,8 @@ array-read-x c = search needs
 
 add-spread : tie.Need-add-spread Inv-loop μ-loop
 add-spread c =
-    let a = c .before .before .args in
-    omega (arith, c .before .before .pre .1 (c .before .loop .i) (omega arith), added (getD (a .t3) (a .pin) 0) (getD (a .t4) (a .pin) 0))
+    let a = c .before .before .before .before .args in
+    omega (arith, c .before .before .before .before .pre .1 (c .before .loop .i) (omega arith), added (getD (a .words .now) (a .pin) 0) (getD (a .bits .now) (a .pin) 0))
 
 mul-spread : tie.Need-mul-spread Inv-loop μ-loop
 mul-spread c = search needs
@@ -61,8 +61,8 @@ array-write-spread c = search needs
 
 add-spread-2 : tie.Need-add-spread-2 Inv-loop μ-loop
 add-spread-2 c =
-    let a = c .before .before .args in
-    omega (arith, c .before .before .pre .1 (c .before .loop .i) (omega arith), added (getD (a .t3) (a .pin) 0) (getD (a .t4) (a .pin) 0))
+    let a = c .before .before .before .before .args in
+    omega (arith, c .before .before .before .before .pre .1 (c .before .loop .i) (omega arith), added (getD (a .words .now) (a .pin) 0) (getD (a .bits .now) (a .pin) 0))
 
 mul-spread-3 : tie.Need-mul-spread-3 Inv-loop μ-loop
 mul-spread-3 c = search needs
@@ -85,14 +85,14 @@ loop-less c = search needs
 loop-again : tie.Need-loop-again Inv-loop μ-loop
 loop-again c =
     let l = c .before .loop in
-    let a = c .before .before .args in
-    let bit = getD (a .t4) (a .pin) 0 in
-    let right = getD (a .t3) (a .pin) 0 % 2 * bit in
+    let a = c .before .before .before .before .args in
+    let bit = getD (a .bits .now) (a .pin) 0 in
+    let right = getD (a .words .now) (a .pin) 0 % 2 * bit in
     (omega arith, simp length-set (l .inv .1), spread-turn right (bit - right) (a .t1) (l .spread) (l .i) (omega arith) (omega arith) (l .inv .2))
 
 returns : tie.Need-returns Inv-loop μ-loop
 returns c =
-    let end : c .before .loop .i ≡ c .before .before .args .used = omega arith in
+    let end : c .before .loop .i ≡ c .before .before .before .before .args .used = omega arith in
     rw end at (c .before .loop .inv .2)
 
 pub spread-pin-spec : {M : Type 1} → statement M
@@ -102,9 +102,9 @@ spread-pin-spec =
     Inv-loop
     μ-loop
     mul-bit
-    array-read-bit
+    element-copy-out-bit
     mul-right
-    array-read-right
+    element-copy-out-right
     mul-right-2
     sub-wrong
     loop-holds

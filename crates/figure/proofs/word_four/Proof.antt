@@ -1,66 +1,79 @@
 -- `figure::word_four` meets its contract: each step hands its part of the array on. Assumes nothing.
 use Prim.Native.Nat.{ℕ}
-use mathlib.Core.Path.{_∙_}
-use mathlib.Core.List.{List}
+use mathlib.Core.Path.{_≡_, refl, _∙_}
+use mathlib.Core.List.{List, [], _∷_}
 use native.Mathlib.Omega.{arith}
 use borrow.Author.Needs.{needs}
-use lib.ListN.{drop, replicate}
-use Rattle.figure.specs.Steps.{Pin, firstPins}
+use lib.ListN.{take, drop, replicate}
+use Rattle.figure.specs.Steps.{Pin, firstPins, spreadPins}
 use Rattle.figure.proofs.Word.{spread-room, spread-small, word-made}
 use Rattle.figure.proofs.word_four.Statement.{statement}
 use Rattle.figure.proofs.word_four.Tie as tie
 
 -- the pins from pin k on
 abbrev pins : tie.Start → ℕ → List Pin
-pins s k = drop k (firstPins 4 (s .args .words) (s .args .bits))
+pins s k = drop k (firstPins 4 (s .args .t3) (s .args .t4))
+
+-- all of them have been spread
+abbrev entry : tie.After-spread-pin4 → tie.Start
+entry c = c .before .before .before .before .before .before
+
+spread : (c : tie.After-spread-pin4) → take 16 (c .spread-pin4 .result) ≡ spreadPins (pins (entry c) 0) (entry c .args .start ∷ [])
+spread c = rw (c .spread-pin4 .ensures, c .before .spread-pin3 .ensures, c .before .before .spread-pin2 .ensures, c .before .before .before .spread-pin .ensures)
 
 spread-pin-requires : tie.Need-spread-pin-requires
-spread-pin-requires c κs = (omega arith, spread-room (c .args .start) (pins c 4) 1 (replicate 16 (c .args .start)) (cc) _ (omega arith))
+spread-pin-requires c κs =
+    let s = c .before .before in
+    (omega arith, spread-room (s .args .start) (pins s 4) 1 (replicate 16 (s .args .start)) refl _ (omega arith))
 
 spread-pin-requires-2 : tie.Need-spread-pin-requires-2
 spread-pin-requires-2 c κs =
-    let s = c .before in
-    (omega arith, spread-room (s .args .start) (pins s 3) 2 (c .spread-pin .result) (cc) _ (omega arith))
+    let s = c .before .before .before in
+    (omega arith, spread-room (s .args .start) (pins s 3) 2 (c .spread-pin .result) (c .spread-pin .ensures) _ (omega arith))
 
 spread-pin-requires-3 : tie.Need-spread-pin-requires-3
 spread-pin-requires-3 c κs =
-    let s = c .before .before in
-    (omega arith, spread-room (s .args .start) (pins s 2) 4 (c .spread-pin2 .result) (cc) _ (omega arith))
+    let s = c .before .before .before .before in
+    (omega arith, spread-room (s .args .start) (pins s 2) 4 (c .spread-pin2 .result) (rw (c .spread-pin2 .ensures, c .before .spread-pin .ensures)) _ (omega arith))
 
 spread-pin-requires-4 : tie.Need-spread-pin-requires-4
 spread-pin-requires-4 c κs =
-    let s = c .before .before .before in
-    (omega arith, spread-room (s .args .start) (pins s 1) 8 (c .spread-pin3 .result) (cc) _ (omega arith))
+    let s = c .before .before .before .before .before in
+    (omega arith, spread-room (s .args .start) (pins s 1) 8 (c .spread-pin3 .result) (rw (c .spread-pin3 .ensures, c .before .spread-pin2 .ensures, c .before .before .spread-pin .ensures)) _ (omega arith))
 
 start-values-requires : tie.Need-start-values-requires
 start-values-requires c κs =
-    let s = c .before .before .before .before in
-    (omega arith, spread-small (s .args .start) (pins s 0) 16 (c .spread-pin4 .result) (cc) (omega arith))
+    let s = entry c in
+    (omega arith, spread-small (s .args .start) (pins s 0) 16 (c .spread-pin4 .result) (spread c) (omega arith))
 
 fold-step-requires : tie.Need-fold-step-requires
-fold-step-requires c κs = search (needs, c .before .before .before .before .before .pre .1)
+fold-step-requires c κs = search (needs, entry (c .before) .pre .1)
 
 fold-step-requires-2 : tie.Need-fold-step-requires-2
-fold-step-requires-2 c κs = search (needs, c .before .before .before .before .before .before .pre .1)
+fold-step-requires-2 c κs = search (needs, entry (c .before .before) .pre .1)
 
 fold-step-requires-3 : tie.Need-fold-step-requires-3
-fold-step-requires-3 c κs = search (needs, c .before .before .before .before .before .before .before .pre .1)
+fold-step-requires-3 c κs = search (needs, entry (c .before .before .before) .pre .1)
 
 fold-step-requires-4 : tie.Need-fold-step-requires-4
-fold-step-requires-4 c κs = search (needs, c .before .before .before .before .before .before .before .before .pre .1)
+fold-step-requires-4 c κs = search (needs, entry (c .before .before .before .before) .pre .1)
 
 word-of-requires : tie.Need-word-of-requires
 word-of-requires c κs =
-    let s = c .before .before .before .before .before .before .before .before .before in
-    let indices = c .before .before .before .before .before .spread-pin4 .result in
-    (spread-small (s .args .start) (pins s 0) 16 indices (cc) (omega arith) 0 (omega arith), c .fold-step4 .ensures .1 0 (omega arith), s .pre .0 .1)
+    let d = c .before .before .before .before .before in
+    let s = entry d in (
+      spread-small (s .args .start) (pins s 0) 16 (d .spread-pin4 .result) (spread d) (omega arith) 0 (omega arith),
+      c .fold-step4 .ensures .1 0 (omega arith),
+      s .pre .0 .1,
+    )
 
 returns : tie.Need-returns
 returns c =
-    let s = c .before .before .before .before .before .before .before .before .before .before in
-    let indices = c .before .before .before .before .before .before .spread-pin4 .result in
-    let values = c .before .fold-step4 .result in
-    c .word-of .ensures ∙ word-made (s .args .start) (pins s 0) 16 indices (cc) (s .args .table) _ values (omega arith) (cc)
+    let d = c .before .before .before .before .before .before in
+    let s = entry d in
+    c .word-of .ensures
+    ∙ word-made (s .args .start) (pins s 0) 16 (d .spread-pin4 .result) (spread d) (s .args .table) _ (c .before .fold-step4 .result) (omega arith)
+    (rw (c .before .fold-step4 .ensures .0, c .before .before .fold-step3 .ensures .0, c .before .before .before .fold-step2 .ensures .0, c .before .before .before .before .fold-step .ensures .0, c .before .before .before .before .before .start-values .ensures .0))
 
 pub word-four-spec : {M : Type 1} → statement M
 word-four-spec =
