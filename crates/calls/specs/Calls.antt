@@ -2,9 +2,8 @@
 use Prim.Native.Nat.{ℕ, _+_, _*_, _^_}
 use mathlib.Core.List.{List, [], _++_}
 use lib.ListN.{getD, drop, set}
-use Rattle.rounding.specs.Rounding.{unitsInOne, roundDiv, toUnits}
-use Rattle.chance.specs.Number.{chanceScale}
-use Rattle.chance.specs.Flip.{flipChance}
+use Rattle.rounding.specs.Rounding.{roundDiv}
+use Rattle.chance.specs.Flip.{flipUnits}
 use Rattle.netlist.specs.Live.{liveGates}
 use Rattle.lists.specs.Lists.{sumBelow}
 use Rattle.area.specs.Layout.{inputs, patternIndex, reliabilityWord, needed}
@@ -29,10 +28,6 @@ openWords bs ws = workAll (imageWords bs ++ drop (needed (imageGates bs) (imageO
 -- what open answers: the number of live gates
 unfoldable pub openLive : List ℕ → ℕ
 openLive bs = liveGates (netOf (imageWords bs) [] [])
-
--- the units of a flip that a call sets
-unfoldable pub flipUnits : ℕ → List ℕ → ℕ
-flipUnits kind field = toUnits unitsInOne chanceScale (flipChance kind field)
 
 -- the reliability with everything worked out afresh for pattern q
 unfoldable pub reliabilityAt : List ℕ → ℕ → ℕ
