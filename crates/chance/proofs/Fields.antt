@@ -34,15 +34,9 @@ abbrev pub Right : List Row → Type 0
 Right [] = Unit {0}
 Right (r ∷ rs) = (readUnits (r .kind) (r .field) ≡ r .answer) × Right rs
 
-<<<<<<< HEAD:crates/chance/proofs/Fields.antt
 pub fields : Right rows
-unfolding readUnits flipAccepted flipOf inRange fromZeroToOne ofBits flipChance chanceOf wholeChance chanceScale toUnits roundDiv
-fields = (refl, (refl, (refl, (refl, (refl, (refl, (refl, (refl, tt))))))))
-=======
-pub sheets : Right rows
 unfolding readUnits flipUnits flipAccepted flipOf inRange fromZeroToOne ofBits flipChance chanceOf wholeChance chanceScale toUnits roundDiv
-sheets = (refl, (refl, (refl, (refl, (refl, (refl, (refl, (refl, (refl, (refl, (refl, (refl, (refl, (refl, tt))))))))))))))
->>>>>>> image:crates/chance/proofs/Sheets.antt
+fields = (refl, (refl, (refl, (refl, (refl, (refl, (refl, (refl, tt))))))))
 
 -- minus zero is the chance 0 itself, before conversion
 pub minus-zero : flipChance 1 (0 ∷ 0 ∷ 0 ∷ 0 ∷ 0 ∷ 0 ∷ 0 ∷ 0x80 ∷ []) ≡ 0
