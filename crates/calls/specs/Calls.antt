@@ -2,12 +2,6 @@
 use Prim.Native.Nat.{ℕ, _*_, _^_}
 use mathlib.Core.List.{List, _++_}
 use lib.ListN.{getD, drop, set}
-<<<<<<< HEAD
-=======
-use Rattle.rounding.specs.Rounding.{roundDiv}
-use Rattle.chance.specs.Flip.{flipUnits}
-use Rattle.netlist.specs.Live.{liveGates}
->>>>>>> image
 use Rattle.lists.specs.Lists.{sumBelow}
 use Rattle.refusal.specs.Judgement.{unlessRefused}
 use Rattle.rounding.specs.Rounding.{roundDiv}
@@ -26,11 +20,7 @@ openWords bs ws = workAll (imageWords bs ++ drop (needed (imageGates bs) (imageO
 
 -- what open answers: the number of live gates
 unfoldable pub openLive : List ℕ → ℕ
-<<<<<<< HEAD
 openLive bs = liveGates (imageNet bs)
-=======
-openLive bs = liveGates (netOf (imageWords bs) [] [])
->>>>>>> image
 
 -- the reliability with everything worked out afresh for pattern q
 unfoldable pub reliabilityFor : List ℕ → ℕ → ℕ
