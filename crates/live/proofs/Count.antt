@@ -15,7 +15,8 @@ use Rattle.lists.specs.Lists.{count}
 use Rattle.netlist.specs.Live.{isLive, withGate, liveReadsFrom, liveReads, readers}
 use Rattle.netlist.proofs.Count.{count-append}
 use Rattle.netlist.proofs.Live.{ifLive, count-with}
-use Rattle.area.specs.Layout.{mostSources, inputs, gates, outputs, pinCount, pinsIndex, pins, usedPins, outputsIndex, outputWords}
+use Rattle.area.specs.Layout.{mostPins, mostGates, mostOutputs, mostSources}
+use Rattle.area.specs.Layout.{inputs, gates, outputs, pinCount, pins, usedPins, outputsIndex, outputWords}
 use Rattle.area.specs.Net.{gatesFrom, netOf}
 use Rattle.live.specs.Counted.{Counts, Added, readsOf, gateReads}
 
@@ -100,7 +101,7 @@ gate-turn ws xs ys j l h added s =
     count-reads t zero ps = refl
     count-reads t (suc r) ps = refl
 
--- at most four reads a gate and one an output
+-- at most one read a pin and one an output
 with-length : (s : ℕ) (ps rs : List ℕ) → length (withGate s ps rs) ≤ length ps + length rs
 with-length s ps rs = go (isLive (count s rs))
   where
@@ -108,19 +109,18 @@ with-length s ps rs = go (isLive (count s rs))
     go true = omega (arith, length-append ps rs)
     go false = omega arith
 
-reads-length : (ws outs : List ℕ) (s j k : ℕ) → length (liveReadsFrom outs s (gatesFrom ws [] [] j k)) ≤ length outs + 4 * k
+reads-length : (ws outs : List ℕ) (s j k : ℕ) → length (liveReadsFrom outs s (gatesFrom ws [] [] j k)) ≤ length outs + mostPins * k
 reads-length ws outs s j zero = omega arith
 reads-length ws outs s j (suc k) =
     omega (
       arith,
       with-length s (usedPins ws j) (liveReadsFrom outs (suc s) (gatesFrom ws [] [] (suc j) k)),
       length-take (pinCount ws j) (pins ws j),
-      length-take 4 (drop (pinsIndex j) ws),
       reads-length ws outs (suc s) (suc j) k,
     )
 
 -- the counts stay small
-pub few-reads : (ws xs : List ℕ) (j : ℕ) → gates ws ≤ 1024 → outputs ws ≤ 64 → length xs ≡ mostSources → CountsOf xs (readsAfter ws j) → Counts xs
+pub few-reads : (ws xs : List ℕ) (j : ℕ) → gates ws ≤ mostGates → outputs ws ≤ mostOutputs → length xs ≡ mostSources → CountsOf xs (readsAfter ws j) → Counts xs
 few-reads ws xs j g k l h =
     record {
       long = l;

@@ -1,28 +1,24 @@
--- What is read off a list of counts is what the netlist's live reads say. Assumes nothing.
-use Prim.Native.Nat.{ℕ, zero, suc, _+_, _-_, _≤_, _<_}
-use mathlib.Core.Bool.{Bool, cond, true}
+-- Live gates read off a list of counts are those of the netlist's live reads. Assumes nothing.
+use Prim.Native.Nat.{ℕ, zero, suc, _+_, _-_, _<_}
+use mathlib.Core.Bool.{true}
 use mathlib.Core.List.{List, []}
 use mathlib.Core.Path.{_≡_, refl, sym, ap, ap₂, _∙_}
 use native.Mathlib.Nat.{sub-self}
 use native.Mathlib.Omega.{arith}
-use lib.ListN.{length, getD}
-use lib.Dec.{leb}
-use borrow.Author.Tests.{le-leb, lt-leb}
+use lib.ListN.{getD}
 use Rattle.figure.specs.Figure.{bitOf}
-use Rattle.lists.specs.Lists.{count}
-use Rattle.netlist.specs.Live.{isLive, liveReads, readers, liveAmong, liveGates, firstSharedFrom, firstShared, SingleReaders}
-use Rattle.netlist.proofs.Shared.{none-single}
+use Rattle.netlist.specs.Live.{isLive, liveReads, readers, liveAmong, liveGates}
 use Rattle.area.specs.Layout.{inputs, gates}
 use Rattle.area.specs.Net.{netOf}
-use Rattle.live.specs.Counted.{liveCounted, sharedCounted}
-use Rattle.area.proofs.Net.{gate-count, same-live-gates, same-first-shared}
+use Rattle.area.proofs.Net.{gate-count, same-live-gates}
+use Rattle.live.specs.Counted.{liveCounted}
 use Rattle.live.proofs.Count.{CountsOf}
 
 has-reader : (r : ℕ) → 0 < r → isLive r ≡ true
 has-reader zero l = absurd (omega arith)
 has-reader (suc r) l = refl
 
--- what is left of the loops over gates: at gate g of k, the first of which is source n, and at the end
+-- what is left of the loop over gates: at gate g of k, the first of which is source n, and at the end
 module _ (xs : List ℕ) (n g k : ℕ) (l : g < k) where
   live-next : liveCounted xs (n + g) (k - g) ≡ bitOf (isLive (getD xs (n + g) 0)) + liveCounted xs (n + (g + 1)) (k - (g + 1))
   live-next =
@@ -36,54 +32,23 @@ module _ (xs : List ℕ) (n g k : ℕ) (l : g < k) where
   pub live-same : getD xs (n + g) 0 ≡ 0 → liveCounted xs (n + g) (k - g) ≡ liveCounted xs (n + (g + 1)) (k - (g + 1))
   live-same h = omega (arith, live-next, ap (λ (c : ℕ). bitOf (isLive c)) h)
 
-  shared-next : sharedCounted xs (n + g) (k - g) ≡ cond (leb 2 (getD xs (n + g) 0)) 0 (suc (sharedCounted xs (n + (g + 1)) (k - (g + 1))))
-  shared-next =
-      let more : k - g ≡ suc (k - (g + 1)) = omega arith in
-      let next : suc (n + g) ≡ n + (g + 1) = omega arith in
-      ap (sharedCounted xs (n + g)) more ∙ ap (λ (s : ℕ). cond (leb 2 (getD xs (n + g) 0)) 0 (suc (sharedCounted xs s (k - (g + 1))))) next
-
-  pub shared-here : 2 ≤ getD xs (n + g) 0 → sharedCounted xs (n + g) (k - g) ≡ 0
-  shared-here h = shared-next ∙ ap (λ (b : Bool). cond b 0 (suc (sharedCounted xs (n + (g + 1)) (k - (g + 1))))) (le-leb 2 (getD xs (n + g) 0) h)
-
-  pub shared-later : getD xs (n + g) 0 < 2 → sharedCounted xs (n + g) (k - g) ≡ suc (sharedCounted xs (n + (g + 1)) (k - (g + 1)))
-  shared-later h = shared-next ∙ ap (λ (b : Bool). cond b 0 (suc (sharedCounted xs (n + (g + 1)) (k - (g + 1))))) (lt-leb 2 (getD xs (n + g) 0) h)
-
 pub live-end : (xs : List ℕ) (s k : ℕ) → liveCounted xs s (k - k) ≡ 0
 live-end xs s k = ap (liveCounted xs s) (sub-self k)
-
-pub shared-end : (xs : List ℕ) (s k : ℕ) → sharedCounted xs s (k - k) ≡ 0
-shared-end xs s k = ap (sharedCounted xs s) (sub-self k)
 
 -- from counts to reads
 live-among : (xs rs : List ℕ) → CountsOf xs rs → (k s : ℕ) → liveCounted xs s k ≡ liveAmong rs s k
 live-among xs rs h zero s = refl
 live-among xs rs h (suc k) s = ap₂ _+_ (ap (λ (c : ℕ). bitOf (isLive c)) (h s)) (live-among xs rs h k (suc s))
 
-shared-from : (xs rs : List ℕ) → CountsOf xs rs → (k s : ℕ) → sharedCounted xs s k ≡ firstSharedFrom rs s k
-shared-from xs rs h zero s = refl
-shared-from xs rs h (suc k) s = ap₂ (λ (c r : ℕ). cond (leb 2 c) 0 (suc r)) (h s) (shared-from xs rs h k (suc s))
-
+-- the live gates of document 01, whatever the kinds and chances
 module _ (ws xs : List ℕ) (counted : (s : ℕ) → getD xs s 0 ≡ readers (netOf ws [] []) s) (kinds chances : List ℕ) where
   all-counted : CountsOf xs (liveReads (netOf ws [] []))
   unfolding readers
   all-counted = counted
 
-  -- the live gates of document 01, whatever the kinds and chances
   pub live-gates-are : liveCounted xs (inputs ws) (gates ws) ≡ liveGates (netOf ws kinds chances)
   unfolding liveGates
   live-gates-are =
       live-among xs (liveReads (netOf ws [] [])) all-counted (gates ws) (inputs ws)
       ∙ ap (liveAmong (liveReads (netOf ws [] [])) (inputs ws)) (sym (gate-count ws [] []))
       ∙ same-live-gates ws [] [] kinds chances
-
-  -- the place of refusal 9
-  pub first-shared-are : sharedCounted xs (inputs ws) (gates ws) ≡ firstShared (netOf ws kinds chances)
-  unfolding firstShared
-  first-shared-are =
-      shared-from xs (liveReads (netOf ws [] [])) all-counted (gates ws) (inputs ws)
-      ∙ ap (firstSharedFrom (liveReads (netOf ws [] [])) (inputs ws)) (sym (gate-count ws [] []))
-      ∙ same-first-shared ws [] [] kinds chances
-
-  -- where no gate is found, refusal 9 does not apply
-  pub one-reader : sharedCounted xs (inputs ws) (gates ws) ≡ gates ws → SingleReaders (netOf ws kinds chances)
-  one-reader none = none-single (netOf ws kinds chances) (sym first-shared-are ∙ none ∙ sym (gate-count ws kinds chances))

@@ -1,3 +1,3 @@
-pub mod Net
 pub mod Count
 pub mod Counted
+pub mod Shared

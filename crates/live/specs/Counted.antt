@@ -1,19 +1,22 @@
--- Counts of live readers, entry s for source s: how reads are added to them, and how live and shared gates are read off them.
-use Prim.Native.Nat.{ℕ, zero, suc, _+_, _≤_}
+-- Counts of live readers, entry s for source s: how reads are added to them, and how live gates are read off them.
+use Prim.Native.Nat.{ℕ, zero, suc, _+_, _*_, _≤_}
 use mathlib.Core.Bool.{cond}
 use mathlib.Core.List.{List, []}
 use mathlib.Core.Path.{_≡_}
 use lib.ListN.{length, getD}
-use lib.Dec.{leb}
 use Rattle.figure.specs.Figure.{bitOf}
 use Rattle.lists.specs.Lists.{count}
 use Rattle.netlist.specs.Live.{isLive}
-use Rattle.area.specs.Layout.{mostSources, inputs, usedPins}
+use Rattle.area.specs.Layout.{mostPins, mostGates, mostOutputs, mostSources, inputs, usedPins}
 
--- counts that take further reads: room for 12 inputs and 1,024 gates, and none above what 64 outputs and four pins a gate come to
+-- every output and every pin of the largest netlist
+abbrev pub mostReads : ℕ
+mostReads = mostOutputs + mostPins * mostGates
+
+-- counts that take further reads: one for each source, and none above what a netlist has
 pub record Counts (counts : List ℕ) : Type 0 where
   pub long : length counts ≡ mostSources
-  pub few : (s : ℕ) → getD counts s 0 ≤ 4160
+  pub few : (s : ℕ) → getD counts s 0 ≤ mostReads
 
 -- new is old with the reads rs added
 pub record Added (old rs new : List ℕ) : Type 0 where

@@ -7,9 +7,13 @@ use Rattle.refusal.specs.Judgement.{refuseUnless, lowest}
 use Rattle.netlist.specs.Netlist.{Netlist}
 use Rattle.netlist.specs.Live.{readers}
 
--- the lowest of the gates, the first of which is source `first`, that has two readers, where source s has `count s`
+-- gate j, where source s has `count s` readers and the first gate is source `first`
+abbrev pub gateShared : (ℕ → ℕ) → ℕ → ℕ → Judgement
+gateShared count first j = refuseUnless (leb (count (first + j)) 1) 9 j
+
+-- the lowest of the gates that has two readers
 abbrev pub sharedBy : (ℕ → ℕ) → ℕ → ℕ → Judgement
-sharedBy count first gates = lowest (λ j. refuseUnless (leb (count (first + j)) 1) 9 j) gates
+sharedBy count first gates = lowest (gateShared count first) gates
 
 unfoldable pub sharedJudgement : Netlist → Judgement
 sharedJudgement net = sharedBy (readers net) (net .inputs) (length (net .gates))

@@ -1,52 +1,63 @@
-// Live readers, counted on the words of an area: the number of live gates, and the place of refusal 9.
+// Live readers, counted on the words of an area: the number of live gates, and refusal 9.
 //
-// `readers` has an entry for each source, inputs too: 12 inputs and 1,024 gates at the most.
+// `readers` has an entry for each source, inputs too.
 ghost use mathlib.Core.Path.{_≡_};
 ghost use mathlib.Core.List.{[]};
 ghost use Prim.Native.Nat.{ℕ, _+_, _<_, _≤_};
 ghost use lib.ListN.{length, getD, take, drop};
 ghost use Rattle.netlist.specs.Live.{readers};
-ghost use Rattle.area.specs.Layout.{gates};
-ghost use Rattle.area.specs.Rules.{Sound};
+ghost use Rattle.area.specs.Layout as layout;
+ghost use Rattle.area.specs.Rules.{NetSound};
 ghost use Rattle.area.specs.Net.{netOf};
-ghost use Rattle.live.specs.Counted.{Counts, Added, gateReads, liveCounted, sharedCounted};
+ghost use Rattle.live.specs.Counted.{Counts, Added, gateReads, liveCounted};
+ghost use Rattle.live.specs.Shared.{sharedBy};
+use refusal::Judgement;
 
 // One reader more for each of the `many` sources that stand in the area from `start` on.
-fn add_reads(readers: &mut [u32; 1036], area: &[u32], start: usize, many: usize)
+fn add_reads(readers: &mut [u32; area::MOST_SOURCES], area: &[u32], start: usize, many: usize)
     requires { ⌜ start + many ≤ length (now area) ⌝ }
-    requires { ⌜ ((i : ℕ) → i < many → getD (now area) (start + i) 0 < 1036) ⌝ }
-    requires { ⌜ Counts (now readers) × (many ≤ 64) ⌝ }
+    requires { ⌜ ((i : ℕ) → i < many → getD (now area) (start + i) 0 < layout.mostSources) ⌝ }
+    requires { ⌜ Counts (now readers) × (many ≤ layout.mostOutputs) ⌝ }
     ensures { λ _. ⌜ Added (now (readers .entry)) (take many (drop start (now (area .entry)))) (now (readers .exit)) ⌝ }
 {
     let mut i = 0;
     while i < many {
-        let source = area[start + i] as usize;
+        let source = area::index(area[start + i]);
         readers[source] += 1;
         i += 1;
     }
 }
 
 // A gate that has a reader reads by each of its used pins; a dead gate reads nothing.
-fn add_gate(readers: &mut [u32; 1036], area: &[u32], gate: usize)
-    requires { ⌜ Sound (now area) × (gate < gates (now area)) ⌝ }
+fn add_gate(readers: &mut [u32; area::MOST_SOURCES], area: &[u32], gate: usize)
+    requires { ⌜ NetSound (now area) × (gate < layout.gates (now area)) ⌝ }
     requires { ⌜ Counts (now readers) ⌝ }
     ensures { λ _. ⌜ Added (now (readers .entry)) (gateReads (now (area .entry)) (now (readers .entry)) gate) (now (readers .exit)) ⌝ }
 {
-    let source = area[0] as usize + gate;
+    let source = area::inputs(area) + gate;
     if 0 < readers[source] {
-        let at = 8 + 8 * gate;
-        add_reads(readers, area, at + 2, area[at] as usize);
+        add_reads(
+            readers,
+            area,
+            area::pins_index(gate),
+            area::pin_count(area, gate),
+        );
     }
 }
 
 // The live readers of every source. A gate's readers come after it, so the last gate is looked at first.
-pub fn count_readers(area: &[u32]) -> [u32; 1036]
-    requires { ⌜ Sound (now area) ⌝ }
+pub fn count_readers(area: &[u32]) -> [u32; area::MOST_SOURCES]
+    requires { ⌜ NetSound (now area) ⌝ }
     ensures { λ r. ⌜ ((s : ℕ) → getD r s 0 ≡ readers (netOf (now (area .entry)) [] []) s) ⌝ }
 {
-    let mut gate = area[1] as usize;
-    let mut readers = [0u32; 1036];
-    add_reads(&mut readers, area, 8 + 8 * gate, area[2] as usize);
+    let mut gate = area::gates(area);
+    let mut readers = [0u32; area::MOST_SOURCES];
+    add_reads(
+        &mut readers,
+        area,
+        area::outputs_index(gate),
+        area::outputs(area),
+    );
     while 0 < gate {
         gate -= 1;
         add_gate(&mut readers, area, gate);
@@ -55,8 +66,8 @@ pub fn count_readers(area: &[u32]) -> [u32; 1036]
 }
 
 // How many of the gates have a reader; the first gate is source `inputs`.
-pub fn live_gates(readers: &[u32; 1036], inputs: usize, gates: usize) -> u32
-    requires { ⌜ inputs + gates ≤ 1036 ⌝ }
+pub fn live_gates(readers: &[u32; area::MOST_SOURCES], inputs: usize, gates: usize) -> u32
+    requires { ⌜ inputs + gates ≤ layout.mostSources ⌝ }
     ensures { λ r. ⌜ r ≡ liveCounted (now (readers .entry)) inputs gates ⌝ }
 {
     let mut live = 0;
@@ -70,17 +81,17 @@ pub fn live_gates(readers: &[u32; 1036], inputs: usize, gates: usize) -> u32
     live
 }
 
-// The lowest gate with two readers or more; `gates` if there is none.
-pub fn first_shared(readers: &[u32; 1036], inputs: usize, gates: usize) -> usize
-    requires { ⌜ inputs + gates ≤ 1036 ⌝ }
-    ensures { λ r. ⌜ r ≡ sharedCounted (now (readers .entry)) inputs gates ⌝ }
+// Refusal 9: the lowest gate with two readers or more.
+pub fn judge_shared(readers: &[u32; area::MOST_SOURCES], inputs: usize, gates: usize) -> Judgement
+    requires { ⌜ inputs + gates ≤ layout.mostSources ⌝ }
+    ensures { λ r. ⌜ r ≡ sharedBy (λ s. getD (now (readers .entry)) s 0) inputs gates ⌝ }
 {
     let mut gate = 0;
     while gate < gates {
         if 1 < readers[inputs + gate] {
-            return gate;
+            return Judgement::Refused(refusal::SHARED, gate as u32);
         }
         gate += 1;
     }
-    gates
+    Judgement::Fine
 }

@@ -10,7 +10,7 @@ use lib.Dec.{leb, ltb, eqb}
 use lib.ListN.{length, getD, take, drop, length-take}
 use lib.Pow.{shl-exact}
 use lib.Seq.{getD-take, getD-drop}
-use Rattle.area.specs.Layout.{gates, outputs, outputsIndex, outputWords}
+use Rattle.area.specs.Layout.{mostPins, mostInputs, mostGates, mostOutputs, gates, outputs, outputsIndex, outputWords, needed}
 use Rattle.lists.specs.Lists.{allZero, allBelow}
 use Rattle.area.specs.Rules.{gateShape, usedBelow, countsInRange}
 
@@ -43,17 +43,17 @@ below-passes b (x ∷ xs) f =
 
 -- rule 5
 pub record Shape (a table : ℕ) (ps : List ℕ) : Type 0 where
-  pub pin-count : a ≤ 4
+  pub pin-count : a ≤ mostPins
   pub table-bits : table < 2 ^ 2 ^ a
   pub unused-zero : (i : ℕ) → a ≤ i → getD ps i 0 ≡ 0
 
 pub shape-holds : (a table : ℕ) (ps : List ℕ) → gateShape a table ps ≡ true → Shape a table ps
 unfolding gateShape
 shape-holds a table ps e =
-    let p = both (leb a 4) (ltb table (2 ^ 2 ^ a) && allZero (drop a ps)) e in
+    let p = both (leb a mostPins) (ltb table (2 ^ 2 ^ a) && allZero (drop a ps)) e in
     let q = both (ltb table (2 ^ 2 ^ a)) (allZero (drop a ps)) (p .1) in
     record {
-      pin-count = leb-true a 4 (p .0);
+      pin-count = leb-true a mostPins (p .0);
       table-bits = ltb-true table (2 ^ 2 ^ a) (q .0);
       unused-zero = λ i h. at i h (zero-holds (drop a ps) (q .1) (i - a));
     }
@@ -66,7 +66,7 @@ shape-holds a table ps e =
 pub shape-passes : (a table : ℕ) (ps : List ℕ) → Shape a table ps → gateShape a table ps ≡ true
 unfolding gateShape
 shape-passes a table ps s =
-    join (leb a 4) (ltb table (2 ^ 2 ^ a) && allZero (drop a ps)) (le-leb a 4 (s .pin-count))
+    join (leb a mostPins) (ltb table (2 ^ 2 ^ a) && allZero (drop a ps)) (le-leb a mostPins (s .pin-count))
     (join (ltb table (2 ^ 2 ^ a)) (allZero (drop a ps)) (lt-ltb table (2 ^ 2 ^ a) (s .table-bits))
     (zero-passes (drop a ps) (λ i. getD-drop a ps i 0 ∙ s .unused-zero (a + i) (omega arith))))
 
@@ -86,26 +86,26 @@ used-passes limit a ps f = below-passes limit (take a ps) at
         rw (getD-take a ps i 0 l) (f i l)
 
 -- rule 14, the counts
-pub counts-hold : (n g k : ℕ) → countsInRange n g k ≡ true → (n ≤ 12) × (g ≤ 1024) × (1 ≤ k) × (k ≤ 64)
+pub counts-hold : (n g k : ℕ) → countsInRange n g k ≡ true → (n ≤ mostInputs) × (g ≤ mostGates) × (1 ≤ k) × (k ≤ mostOutputs)
 unfolding countsInRange
 counts-hold n g k e =
-    let p = both (leb n 12) (leb g 1024 && (leb 1 k && leb k 64)) e in
-    let q = both (leb g 1024) (leb 1 k && leb k 64) (p .1) in
-    let r = both (leb 1 k) (leb k 64) (q .1) in
-    (leb-true n 12 (p .0), leb-true g 1024 (q .0), leb-true 1 k (r .0), leb-true k 64 (r .1))
+    let p = both (leb n mostInputs) (leb g mostGates && (leb 1 k && leb k mostOutputs)) e in
+    let q = both (leb g mostGates) (leb 1 k && leb k mostOutputs) (p .1) in
+    let r = both (leb 1 k) (leb k mostOutputs) (q .1) in
+    (leb-true n mostInputs (p .0), leb-true g mostGates (q .0), leb-true 1 k (r .0), leb-true k mostOutputs (r .1))
 
-pub counts-pass : (n g k : ℕ) → n ≤ 12 → g ≤ 1024 → 1 ≤ k → k ≤ 64 → countsInRange n g k ≡ true
+pub counts-pass : (n g k : ℕ) → n ≤ mostInputs → g ≤ mostGates → 1 ≤ k → k ≤ mostOutputs → countsInRange n g k ≡ true
 unfolding countsInRange
 counts-pass n g k a b c d =
-    join (leb n 12) (leb g 1024 && (leb 1 k && leb k 64)) (le-leb n 12 a)
-    (join (leb g 1024) (leb 1 k && leb k 64) (le-leb g 1024 b) (join (leb 1 k) (leb k 64) (le-leb 1 k c) (le-leb k 64 d)))
+    join (leb n mostInputs) (leb g mostGates && (leb 1 k && leb k mostOutputs)) (le-leb n mostInputs a)
+    (join (leb g mostGates) (leb 1 k && leb k mostOutputs) (le-leb g mostGates b) (join (leb 1 k) (leb k mostOutputs) (le-leb 1 k c) (le-leb k mostOutputs d)))
 
--- 2^n of at most 12 inputs, by a shift
-pub shifted : (n : ℕ) → n ≤ 12 → 1 * 2 ^ n % 2 ^ 32 ≡ 2 ^ n
+-- 2^n of so few inputs, by a shift
+pub shifted : (n : ℕ) → n ≤ mostInputs → 1 * 2 ^ n % 2 ^ 32 ≡ 2 ^ n
 shifted n h = shl-exact 1 n 32 (omega arith) (omega arith) ∙ one-mul (2 ^ n)
 
 -- the output words by their start and end
-pub middle : (ws : List ℕ) → take (outputsIndex (gates ws) + outputs ws - (outputsIndex (gates ws))) (drop (outputsIndex (gates ws)) ws) ≡ outputWords ws
+pub middle : (ws : List ℕ) → take (needed (gates ws) (outputs ws) - outputsIndex (gates ws)) (drop (outputsIndex (gates ws)) ws) ≡ outputWords ws
 middle ws =
-    let z : outputsIndex (gates ws) + outputs ws - (outputsIndex (gates ws)) ≡ outputs ws = omega arith in
+    let z : needed (gates ws) (outputs ws) - outputsIndex (gates ws) ≡ outputs ws = omega arith in
     ap (λ (k : ℕ). take k (drop (outputsIndex (gates ws)) ws)) z

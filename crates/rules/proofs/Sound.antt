@@ -1,122 +1,157 @@
 -- What passes refusals 13 and 14 is well-formed, and what is well-formed passes. Assumes nothing.
-use Prim.Native.Nat.{ℕ, zero, suc, _+_, _*_, _^_, _≤_, _<_}
-use mathlib.Core.Bool.{Bool, true, false, _&&_, cond}
+use Prim.Native.Nat.{ℕ, _+_, _^_, _≤_, _<_}
+use mathlib.Core.Bool.{true, _&&_}
 use mathlib.Core.List.{List}
-use mathlib.Core.Path.{_≡_, refl, ap}
+use mathlib.Core.Path.{_≡_, _∙_}
 use native.Mathlib.Omega.{arith}
-use borrow.Author.Tests.{leb-true, le-leb, ltb-true, ltb-false, lt-ltb, le-ltb, eqb-true, eq-eqb}
+use borrow.Author.Tests.{leb-true, le-leb, ltb-true, lt-ltb, eqb-true, eq-eqb}
 use lib.Dec.{leb, ltb, eqb}
-use lib.ListN.{length, getD, drop, length-take, length-drop}
-use Rattle.rounding.specs.Rounding.{unitsInOne}
-use Rattle.area.specs.Layout.{inputs, gates, outputs, pattern, reliabilityWord, pinCount, table, pins, flip, figure, outputsIndex, outputWords, needed}
+use lib.ListN.{length, drop, length-take, length-drop}
 use Rattle.lists.specs.Lists.{allBelow}
-use Rattle.area.specs.Rules.{gateShape, usedBelow, gateSound, gatesSound, countsInRange, reservedRight, restSound, areaRefusal, GateSound, Sound}
-use Rattle.area.specs.Layout.{largestFigure}
-use Rattle.rules.specs.Judge.{answerOf, judged}
-use Rattle.rules.specs.declared.Judged.the-variants as Judged
-use Rattle.lists.proofs.Every.{gates-hold, gates-pass}
-use Rattle.rules.proofs.Facts.{both, shape-holds, shape-passes, used-holds, used-passes, below-holds, below-passes, counts-hold, counts-pass}
-use Rattle.rules.proofs.Parts.{gate-is, reserved-is, rest-is, refusal-is}
+use Rattle.lists.proofs.Every.{all-hold, hold-all}
+use Rattle.refusal.specs.declared.Judgement.{Judgement}
+use Rattle.refusal.specs.declared.Judgement.the-variants.{Fine}
+use Rattle.refusal.specs.Judgement.{refuseUnless, otherwise}
+use Rattle.refusal.proofs.Laws.{unless-fine, otherwise-fine, otherwise-second}
+use Rattle.rounding.specs.Rounding.{unitsInOne}
+use Rattle.area.specs.Layout.{largestFlip, largestFigure, headWords, inputs, gates, outputs, pattern, reliabilityWord}
+use Rattle.area.specs.Layout.{reservedFirst, reservedSecond, reservedThird, pinCount, table, pins, flip, figure, outputsIndex, outputWords, needed}
+use Rattle.area.specs.Rules.{gateShape, usedBelow, gateSound, gatesSound, countsInRange, reservedRight, restSound, roomJudgement, areaJudgement}
+use Rattle.area.specs.Rules.{GateShaped, ReservedSound, Sound}
+use Rattle.rules.proofs.Facts.{both, join, shape-holds, shape-passes, used-holds, used-passes, below-holds, below-passes, counts-hold, counts-pass}
+use Rattle.rules.proofs.Parts.{none, next}
 
 -- a gate
-pub gate-holds : (ws : List ℕ) (j : ℕ) → 16 + 8 * j ≤ length ws → gateSound ws j ≡ true → GateSound ws j
+pub record GateSound (ws : List ℕ) (j : ℕ) : Type 0 where
+  pub shaped : GateShaped ws j
+  pub flip-fits : flip ws j ≤ largestFlip
+  pub figure-fits : figure ws j ≤ largestFigure
+
+gate-holds : (ws : List ℕ) (j : ℕ) → gateSound ws j ≡ true → GateSound ws j
 unfolding gateSound
-gate-holds ws j h e =
-    let a = gateShape (pinCount ws j) (table ws j) (pins ws j) in
+gate-holds ws j e =
     let b = usedBelow (inputs ws + j) (pinCount ws j) (pins ws j) in
-    let c = leb (flip ws j) unitsInOne in
+    let c = leb (flip ws j) largestFlip in
     let d = leb (figure ws j) largestFigure in
-    let p = both a (b && (c && d)) e in
+    let p = both (gateShape (pinCount ws j) (table ws j) (pins ws j)) (b && (c && d)) e in
     let q = both b (c && d) (p .1) in
     let r = both c d (q .1) in
     let s = shape-holds (pinCount ws j) (table ws j) (pins ws j) (p .0) in
     record {
-      pin-count = s .pin-count;
-      table-bits = s .table-bits;
-      pins-below = λ i l. used-holds (inputs ws + j) (pinCount ws j) (pins ws j) (q .0) i l (four i l (s .pin-count));
-      unused-zero = s .unused-zero;
-      flip-fits = leb-true (flip ws j) unitsInOne (r .0);
+      shaped = record {
+        pin-count = s .pin-count;
+        table-bits = s .table-bits;
+        pins-below = λ i l. used-holds (inputs ws + j) (pinCount ws j) (pins ws j) (q .0) i l (omega (arith, s .pin-count));
+        unused-zero = s .unused-zero;
+      };
+      flip-fits = leb-true (flip ws j) largestFlip (r .0);
       figure-fits = leb-true (figure ws j) largestFigure (r .1);
     }
-  where
-    four : (i : ℕ) → i < pinCount ws j → pinCount ws j ≤ 4 → i < length (pins ws j)
-    four i l m = rw (length-take, length-drop) (omega arith)
 
-pub gate-passes : (ws : List ℕ) (j : ℕ) → GateSound ws j → gateSound ws j ≡ true
+gate-passes : (ws : List ℕ) (j : ℕ) → GateSound ws j → gateSound ws j ≡ true
+unfolding gateSound
 gate-passes ws j g =
-    gate-is ws j true true true true
-    (shape-passes (pinCount ws j) (table ws j) (pins ws j) (record { pin-count = g .pin-count; table-bits = g .table-bits; unused-zero = g .unused-zero }))
-    (used-passes (inputs ws + j) (pinCount ws j) (pins ws j) (g .pins-below))
-    (le-leb (flip ws j) unitsInOne (g .flip-fits))
-    (le-leb (figure ws j) largestFigure (g .figure-fits))
+    let s = g .shaped in
+    join _ _ (shape-passes _ _ _ (record { pin-count = s .pin-count; table-bits = s .table-bits; unused-zero = s .unused-zero }))
+    (join _ _ (used-passes _ _ _ (s .pins-below)) (join _ _ (le-leb _ _ (g .flip-fits)) (le-leb _ _ (g .figure-fits))))
 
--- refusals that do not apply
-none-13 : (b : Bool) (x : ℕ) → cond b 13 x ≡ 0 → (b ≡ false) × (x ≡ 0)
-none-13 true x e = absurd (omega arith)
-none-13 false x e = (refl, e)
+-- all but the counts and the room
+record Rest (ws : List ℕ) : Type 0 where
+  pub gate : (j : ℕ) → j < gates ws → GateSound ws j
+  pub outputs-below : allBelow (inputs ws + gates ws) (outputWords ws) ≡ true
+  pub pattern-fits : pattern ws < 2 ^ inputs ws
+  pub reliability-fits : reliabilityWord ws ≤ unitsInOne
+  pub reserved : ReservedSound ws
 
-none-14 : (b : Bool) (x : ℕ) → cond b x 14 ≡ 0 → (b ≡ true) × (x ≡ 0)
-none-14 true x e = (refl, e)
-none-14 false x e = absurd (omega arith)
-
-pub sound : (ws : List ℕ) → areaRefusal ws ≡ 0 → Sound ws
-unfolding areaRefusal restSound reservedRight
-sound ws e =
-    let counts = countsInRange (inputs ws) (gates ws) (outputs ws) in
-    let short = ltb (length ws) (needed (gates ws) (outputs ws)) in
-    let p = none-13 (ltb (length ws) 8) _ e in
-    let q = none-14 counts _ (p .1) in
-    let r = none-13 short _ (q .1) in
-    let t = none-14 (restSound ws) 0 (r .1) in
-    let n = counts-hold (inputs ws) (gates ws) (outputs ws) (q .0) in
-    let long : needed (gates ws) (outputs ws) ≤ length ws = ltb-false (length ws) (needed (gates ws) (outputs ws)) (r .0) in
-    let z5 = eqb (getD ws 5 0) 0 in
-    let z6 = eqb (getD ws 6 0) 0 in
-    let z7 = eqb (getD ws 7 0) 0 in
-    let below = ltb (pattern ws) (2 ^ inputs ws) in
-    let fits = leb (reliabilityWord ws) unitsInOne in
-    let all = gatesSound ws 0 (gates ws) in
-    let outs = allBelow (inputs ws + gates ws) (outputWords ws) in
-    let t1 = both (z5 && (z6 && z7)) (below && (fits && (all && outs))) (t .0) in
-    let t2 = both below (fits && (all && outs)) (t1 .1) in
-    let t3 = both fits (all && outs) (t2 .1) in
-    let t4 = both all outs (t3 .1) in
-    let w5 = both z5 (z6 && z7) (t1 .0) in
-    let w6 = both z6 z7 (w5 .1) in
+rest-holds : (ws : List ℕ) → restSound ws ≡ true → Rest ws
+unfolding restSound gatesSound reservedRight
+rest-holds ws e =
+    let b = allBelow (inputs ws + gates ws) (outputWords ws) in
+    let c = ltb (pattern ws) (2 ^ inputs ws) in
+    let d = leb (reliabilityWord ws) unitsInOne in
+    let z5 = eqb (reservedFirst ws) 0 in
+    let z6 = eqb (reservedSecond ws) 0 in
+    let z7 = eqb (reservedThird ws) 0 in
+    let p = both (gatesSound ws) (b && (c && (d && (z5 && (z6 && z7))))) e in
+    let q = both b (c && (d && (z5 && (z6 && z7)))) (p .1) in
+    let r = both c (d && (z5 && (z6 && z7))) (q .1) in
+    let s = both d (z5 && (z6 && z7)) (r .1) in
+    let t = both z5 (z6 && z7) (s .1) in
+    let u = both z6 z7 (t .1) in
     record {
-      inputs-fit = n .0;
-      gates-fit = n .1;
-      some-output = n .2;
-      outputs-fit = n .3;
-      long = long;
-      reserved = (eqb-true (getD ws 5 0) 0 (w5 .0), eqb-true (getD ws 6 0) 0 (w6 .0), eqb-true (getD ws 7 0) 0 (w6 .1));
-      pattern-fits = ltb-true (pattern ws) (2 ^ inputs ws) (t2 .0);
-      reliability-fits = leb-true (reliabilityWord ws) unitsInOne (t3 .0);
-      gate = λ j h. gate-holds ws j (omega arith) (gates-hold ws (gates ws) (t4 .0) j h);
-      outputs-below = λ k h. below-holds (inputs ws + gates ws) (outputWords ws) (t4 .1) k (rw (length-take, length-drop) (omega arith));
+      gate = λ j l. gate-holds ws j (all-hold (gateSound ws) (gates ws) (p .0) j l);
+      outputs-below = q .0;
+      pattern-fits = ltb-true (pattern ws) (2 ^ inputs ws) (r .0);
+      reliability-fits = leb-true (reliabilityWord ws) unitsInOne (s .0);
+      reserved = record {
+        first = eqb-true (reservedFirst ws) 0 (t .0);
+        second = eqb-true (reservedSecond ws) 0 (u .0);
+        third = eqb-true (reservedThird ws) 0 (u .1);
+      };
     }
 
-pub sound-passes : (ws : List ℕ) → Sound ws → areaRefusal ws ≡ 0
+rest-passes : (ws : List ℕ) → Rest ws → restSound ws ≡ true
+unfolding restSound gatesSound reservedRight
+rest-passes ws r =
+    join _ _ (hold-all (gateSound ws) (gates ws) (λ j l. gate-passes ws j (r .gate j l)))
+    (join _ _ (r .outputs-below)
+    (join _ _ (lt-ltb _ _ (r .pattern-fits))
+    (join _ _ (le-leb _ _ (r .reliability-fits))
+    (join _ _ (eq-eqb _ _ (r .reserved .first)) (join _ _ (eq-eqb _ _ (r .reserved .second)) (eq-eqb _ _ (r .reserved .third)))))))
+
+pub sound : (ws : List ℕ) → areaJudgement ws ≡ Fine → Sound ws
+unfolding areaJudgement
+sound ws e =
+    let counts = refuseUnless (countsInRange (inputs ws) (gates ws) (outputs ws)) 14 0 in
+    let room = roomJudgement (gates ws) (outputs ws) (length ws) in
+    let rest = refuseUnless (restSound ws) 14 0 in
+    let p = otherwise-fine (refuseUnless (leb headWords (length ws)) 13 0) (otherwise counts (otherwise room rest)) e in
+    let q = otherwise-fine counts (otherwise room rest) (p .1) in
+    let r = otherwise-fine room rest (q .1) in
+    let n = counts-hold (inputs ws) (gates ws) (outputs ws) (unless-fine _ 14 0 (q .0)) in
+    let long = leb-true (needed (gates ws) (outputs ws)) (length ws) (unless-fine _ 13 0 (r .0)) in
+    let t = rest-holds ws (unless-fine (restSound ws) 14 0 (r .1)) in
+    record {
+      workable = record {
+        net = record {
+          inputs-fit = n .0;
+          gates-fit = n .1;
+          some-output = n .2;
+          outputs-fit = n .3;
+          long = long;
+          gate = λ j l. t .gate j l .shaped;
+          outputs-below = λ k l. below-holds (inputs ws + gates ws) (outputWords ws) (t .outputs-below) k (rw (length-take, length-drop) (omega arith));
+        };
+        figures = record {
+          pattern-fits = t .pattern-fits;
+          reliability-fits = t .reliability-fits;
+          flip-fits = λ j l. t .gate j l .flip-fits;
+          figure-fits = λ j l. t .gate j l .figure-fits;
+        };
+      };
+      reserved = t .reserved;
+    }
+
+pub sound-passes : (ws : List ℕ) → Sound ws → areaJudgement ws ≡ Fine
+unfolding areaJudgement
 sound-passes ws s =
-    refusal-is ws false true false true (le-ltb (length ws) 8 (omega arith))
-    (counts-pass (inputs ws) (gates ws) (outputs ws) (s .inputs-fit) (s .gates-fit) (s .some-output) (s .outputs-fit))
-    (le-ltb (length ws) (needed (gates ws) (outputs ws)) (s .long))
-    (rest-is ws true true true true true
-    (reserved-is ws true true true (eq-eqb _ _ (s .reserved .0)) (eq-eqb _ _ (s .reserved .1)) (eq-eqb _ _ (s .reserved .2)))
-    (lt-ltb _ _ (s .pattern-fits))
-    (le-leb _ _ (s .reliability-fits))
-    (gates-pass ws (gates ws) (λ j h. gate-passes ws j (s .gate j h)))
-    (below-passes (inputs ws + gates ws) (outputWords ws) (λ k h. s .outputs-below k (omega (arith, length-take (outputs ws) (drop (outputsIndex (gates ws)) ws))))))
+    let net = s .workable .net in
+    let figures = s .workable .figures in
+    let few = length-take (outputs ws) (drop (outputsIndex (gates ws)) ws) in
+    next 13 0 _ (le-leb headWords (length ws) (omega arith))
+    ∙ next 14 0 _ (counts-pass (inputs ws) (gates ws) (outputs ws) (net .inputs-fit) (net .gates-fit) (net .some-output) (net .outputs-fit))
+    ∙ next 13 0 _ (le-leb (needed (gates ws) (outputs ws)) (length ws) (net .long))
+    ∙ none 14 0
+    (rest-passes ws
+    (record {
+      gate = λ j l.
+          record { shaped = net .gate j l; flip-fits = figures .flip-fits j l; figure-fits = figures .figure-fits j l };
+      outputs-below = below-passes (inputs ws + gates ws) (outputWords ws) (λ k l. net .outputs-below k (omega arith));
+      pattern-fits = figures .pattern-fits;
+      reliability-fits = figures .reliability-fits;
+      reserved = s .reserved;
+    }))
 
--- the answer of `rules::judge`
-pub judged-sound : (ws : List ℕ) → judged ws ≡ Judged.Sound → Sound ws
-unfolding judged
-judged-sound ws e = sound ws (none (areaRefusal ws) e)
-  where
-    none : (n : ℕ) → answerOf n ≡ Judged.Sound → n ≡ 0
-    none zero e = refl
-    none (suc n) e = cc
-
-pub sound-judged : (ws : List ℕ) → Sound ws → judged ws ≡ Judged.Sound
-unfolding judged
-sound-judged ws s = ap answerOf (sound-passes ws s)
+-- what is judged after a sound area
+pub past-area : (ws : List ℕ) → Sound ws → (j : Judgement) → otherwise (areaJudgement ws) j ≡ j
+past-area ws s j = otherwise-second (areaJudgement ws) j (sound-passes ws s)

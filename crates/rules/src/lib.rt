@@ -1,25 +1,16 @@
-// Rules 5, 6 and 14 of document 01: whether a gate and a work area are well-formed, and with which number an area is refused.
+// Rules 5, 6, 13 and 14 of document 01: whether a gate and a work area are well-formed, and with which number an area is refused.
 ghost use mathlib.Core.Path.{_≡_};
-ghost use Prim.Native.Nat.{_+_, _-_, _*_, _^_, _<_, _≤_};
+ghost use Prim.Native.Nat.{_+_, _-_, _^_, _<_, _≤_};
 ghost use lib.ListN.{length, take, drop};
 ghost use lib.Dec.{ltb};
 ghost use Rattle.lists.specs.Lists.{allZero, allBelow};
-ghost use Rattle.area.specs.Rules.{gateShape, usedBelow, gateSound, gatesSound, countsInRange, reservedRight, restSound};
-ghost use Rattle.area.specs.Layout.{inputs, gates, outputs, needed};
-ghost use Rattle.rules.specs.Judge.{judged};
-
-// 2 × U + 1 of document 01: the largest last word of a gate.
-const LARGEST_FIGURE: u64 = 2 * rounding::UNITS_IN_ONE + 1;
-
-// What an area is: well-formed, or refused with this number.
-pub enum Judged {
-    Sound,
-    Refused(u8),
-}
+ghost use Rattle.area.specs.Layout as layout;
+ghost use Rattle.area.specs.Rules.{gateShape, usedBelow, gateSound, gatesSound, countsInRange, reservedRight, restSound, areaJudgement};
+use refusal::Judgement;
 
 // Rule 5, the truth table: no bit at or above 2^count.
-fn table_fits(count: u32, table: u32) -> bool
-    requires { ⌜ count ≤ 4 ⌝ }
+fn table_fits(count: usize, table: u32) -> bool
+    requires { ⌜ count ≤ layout.mostPins ⌝ }
     ensures { λ r. ⌜ r ≡ ltb table (2 ^ 2 ^ count) ⌝ }
 {
     match count {
@@ -32,12 +23,12 @@ fn table_fits(count: u32, table: u32) -> bool
 }
 
 // Rule 5, the unused pins: each one from `count` on is zero.
-fn unused_zero(count: u32, pins: [u32; 4]) -> bool
-    requires { ⌜ count ≤ 4 ⌝ }
+fn unused_zero(count: usize, pins: [u32; 4]) -> bool
+    requires { ⌜ count ≤ layout.mostPins ⌝ }
     ensures { λ r. ⌜ r ≡ allZero (drop count pins) ⌝ }
 {
-    let mut i = count as usize;
-    while i < 4 {
+    let mut i = count;
+    while i < area::MOST_PINS {
         if pins[i] != 0 {
             return false;
         }
@@ -47,10 +38,10 @@ fn unused_zero(count: u32, pins: [u32; 4]) -> bool
 }
 
 // Rule 5.
-pub fn gate_shape(count: u32, table: u32, pins: [u32; 4]) -> bool
+pub fn gate_shape(count: usize, table: u32, pins: [u32; 4]) -> bool
     ensures { λ r. ⌜ r ≡ gateShape count table pins ⌝ }
 {
-    if count > 4 {
+    if count > area::MOST_PINS {
         return false;
     }
     if !table_fits(count, table) {
@@ -60,13 +51,13 @@ pub fn gate_shape(count: u32, table: u32, pins: [u32; 4]) -> bool
 }
 
 // Whether each word from index `from` up to `to` is below `limit`.
-fn all_below(words: &[u32], from: usize, to: usize, limit: u32) -> bool
+fn all_below(words: &[u32], from: usize, to: usize, limit: usize) -> bool
     requires { ⌜ (from ≤ to) × (to ≤ length (now words)) ⌝ }
     ensures { λ r. ⌜ r ≡ allBelow limit (take (to - from) (drop from (now (words .entry)))) ⌝ }
 {
     let mut i = from;
     while i < to {
-        if words[i] >= limit {
+        if area::index(words[i]) >= limit {
             return false;
         }
         i += 1;
@@ -75,52 +66,38 @@ fn all_below(words: &[u32], from: usize, to: usize, limit: u32) -> bool
 }
 
 // Rule 6: each used pin is a source before the gate.
-pub fn used_below(limit: u32, count: u32, pins: [u32; 4]) -> bool
-    requires { ⌜ count ≤ 4 ⌝ }
+pub fn used_below(limit: usize, count: usize, pins: [u32; 4]) -> bool
+    requires { ⌜ count ≤ layout.mostPins ⌝ }
     ensures { λ r. ⌜ r ≡ usedBelow limit count pins ⌝ }
 {
-    all_below(&pins[..], 0, count as usize, limit)
-}
-
-// The four pins of the gate whose words start at `base`.
-pub fn gate_pins(area: &[u32], base: usize) -> [u32; 4]
-    requires { ⌜ base + 6 ≤ length (now area) ⌝ }
-    ensures { λ r. ⌜ r ≡ take 4 (drop (base + 2) (now (area .entry))) ⌝ }
-{
-    [
-        area[base + 2],
-        area[base + 3],
-        area[base + 4],
-        area[base + 5],
-    ]
+    all_below(&pins[..], 0, count, limit)
 }
 
 // Rule 14 for gate `j`.
 fn gate_sound(area: &[u32], j: usize) -> bool
-    requires { ⌜ (j < 1024) × (16 + 8 * j ≤ length (now area)) × (inputs (now area) ≤ 12) ⌝ }
+    requires { ⌜ (layout.figureIndex j < length (now area)) × (layout.inputs (now area) ≤ layout.mostInputs) ⌝ }
     ensures { λ r. ⌜ r ≡ gateSound (now (area .entry)) j ⌝ }
 {
-    let base = 8 + 8 * j;
-    let count = area[base];
-    let pins = gate_pins(area, base);
-    if !gate_shape(count, area[base + 1], pins) {
+    let count = area::pin_count(area, j);
+    let pins = area::pins(area, j);
+    if !gate_shape(count, area::table(area, j), pins) {
         return false;
     }
-    if !used_below(area[0] + j as u32, count, pins) {
+    if !used_below(area::inputs(area) + j, count, pins) {
         return false;
     }
-    if area[base + 6] as u64 > rounding::UNITS_IN_ONE {
+    if area::flip(area, j) > area::LARGEST_FLIP {
         return false;
     }
-    area[base + 7] as u64 <= LARGEST_FIGURE
+    area::figure(area, j) <= area::LARGEST_FIGURE
 }
 
 // Rule 14 for every gate.
 fn gates_sound(area: &[u32]) -> bool
-    requires { ⌜ (gates (now area) ≤ 1024) × (8 + 8 * gates (now area) ≤ length (now area)) × (inputs (now area) ≤ 12) ⌝ }
-    ensures { λ r. ⌜ r ≡ gatesSound (now (area .entry)) 0 (gates (now (area .entry))) ⌝ }
+    requires { ⌜ (layout.outputsIndex (layout.gates (now area)) ≤ length (now area)) × (layout.inputs (now area) ≤ layout.mostInputs) ⌝ }
+    ensures { λ r. ⌜ r ≡ gatesSound (now (area .entry)) ⌝ }
 {
-    let gates = area[1] as usize;
+    let gates = area::gates(area);
     let mut j = 0;
     while j < gates {
         if !gate_sound(area, j) {
@@ -132,76 +109,91 @@ fn gates_sound(area: &[u32]) -> bool
 }
 
 // Rules 3 and 14, the counts.
-pub fn counts_in_range(inputs: u32, gates: u32, outputs: u32) -> bool
+pub fn counts_in_range(inputs: usize, gates: usize, outputs: usize) -> bool
     ensures { λ r. ⌜ r ≡ countsInRange inputs gates outputs ⌝ }
 {
-    if inputs > 12 {
+    if inputs > area::MOST_INPUTS {
         return false;
     }
-    if gates > 1024 {
+    if gates > area::MOST_GATES {
         return false;
     }
     if outputs < 1 {
         return false;
     }
-    outputs <= 64
+    outputs <= area::MOST_OUTPUTS
 }
 
 // Rule 14, the reserved words.
 fn reserved_right(area: &[u32]) -> bool
-    requires { ⌜ 8 ≤ length (now area) ⌝ }
+    requires { ⌜ layout.headWords ≤ length (now area) ⌝ }
     ensures { λ r. ⌜ r ≡ reservedRight (now (area .entry)) ⌝ }
 {
-    if area[5] != 0 {
+    if area[area::RESERVED_FIRST] != 0 {
         return false;
     }
-    if area[6] != 0 {
+    if area[area::RESERVED_SECOND] != 0 {
         return false;
     }
-    area[7] == 0
+    area[area::RESERVED_THIRD] == 0
+}
+
+// Rule 14, the outputs: each is a source.
+fn outputs_below(area: &[u32]) -> bool
+    requires { ⌜ layout.needed (layout.gates (now area)) (layout.outputs (now area)) ≤ length (now area) ⌝ }
+    requires { ⌜ layout.inputs (now area) ≤ layout.mostInputs ⌝ }
+    requires { ⌜ (layout.gates (now area) ≤ layout.mostGates) × (layout.outputs (now area) ≤ layout.mostOutputs) ⌝ }
+    ensures { λ r. ⌜ r ≡ allBelow (layout.inputs (now (area .entry)) + layout.gates (now (area .entry))) (layout.outputWords (now (area .entry))) ⌝ }
+{
+    let gates = area::gates(area);
+    let end = area::needed(gates, area::outputs(area));
+    all_below(
+        area,
+        area::outputs_index(gates),
+        end,
+        area::inputs(area) + gates,
+    )
 }
 
 // Rule 14 but for the counts.
 fn rest_sound(area: &[u32]) -> bool
-    requires { ⌜ needed (gates (now area)) (outputs (now area)) ≤ length (now area) ⌝ }
-    requires { ⌜ (inputs (now area) ≤ 12) × (gates (now area) ≤ 1024) × (outputs (now area) ≤ 64) ⌝ }
+    requires { ⌜ layout.needed (layout.gates (now area)) (layout.outputs (now area)) ≤ length (now area) ⌝ }
+    requires { ⌜ layout.inputs (now area) ≤ layout.mostInputs ⌝ }
+    requires { ⌜ (layout.gates (now area) ≤ layout.mostGates) × (layout.outputs (now area) ≤ layout.mostOutputs) ⌝ }
     ensures { λ r. ⌜ r ≡ restSound (now (area .entry)) ⌝ }
 {
-    if !reserved_right(area) {
-        return false;
-    }
-    if area[3] >= 1 << area[0] {
-        return false;
-    }
-    if area[4] as u64 > rounding::UNITS_IN_ONE {
-        return false;
-    }
     if !gates_sound(area) {
         return false;
     }
-    let gates = area[1];
-    let start = 8 + 8 * (gates as usize);
-    let end = start + area[2] as usize;
-    all_below(area, start, end, area[0] + gates)
+    if !outputs_below(area) {
+        return false;
+    }
+    if area[area::PATTERN] >= 1 << area::inputs(area) {
+        return false;
+    }
+    if area[area::RELIABILITY] as u64 > rounding::UNITS_IN_ONE {
+        return false;
+    }
+    reserved_right(area)
 }
 
 // Refusals 13 and 14 of an area. Its length by the counts is tried only when the counts are in range.
-pub fn judge(area: &[u32]) -> Judged
-    ensures { λ r. ⌜ r ≡ judged (now (area .entry)) ⌝ }
+pub fn judge(area: &[u32]) -> Judgement
+    ensures { λ r. ⌜ r ≡ areaJudgement (now (area .entry)) ⌝ }
 {
-    if area.len() < 8 {
-        return Judged::Refused(13);
+    if area.len() < area::HEAD_WORDS {
+        return Judgement::Refused(refusal::TOO_SHORT, 0);
     }
-    let gates = area[1];
-    let outputs = area[2];
-    if !counts_in_range(area[0], gates, outputs) {
-        return Judged::Refused(14);
+    let gates = area::gates(area);
+    let outputs = area::outputs(area);
+    if !counts_in_range(area::inputs(area), gates, outputs) {
+        return Judgement::Refused(refusal::AREA_RULE, 0);
     }
-    if area.len() < 8 + 8 * (gates as usize) + outputs as usize {
-        return Judged::Refused(13);
+    if area.len() < area::needed(gates, outputs) {
+        return Judgement::Refused(refusal::TOO_SHORT, 0);
     }
     if !rest_sound(area) {
-        return Judged::Refused(14);
+        return Judgement::Refused(refusal::AREA_RULE, 0);
     }
-    Judged::Sound
+    Judgement::Fine
 }

@@ -5,46 +5,47 @@ use native.Mathlib.Nat.{le-refl}
 use native.Mathlib.Omega.{arith}
 use lib.ListN.{length}
 use Rattle.area.specs.Layout.{mostSources, gates}
-use Rattle.area.proofs.Net.{output-source}
+use Rattle.area.proofs.Words.{output-source, few-sources}
 use Rattle.live.proofs.Count.{CountsOf, readsAfter, no-reads, first-reads, gate-turn, few-reads, all-reads}
 use borrow.Author.Needs.{needs}
 use Rattle.live.proofs.count_readers.Statement.{statement}
 use Rattle.live.proofs.count_readers.Tie as tie
 
 abbrev Inv-loop : tie.InvT-loop
-Inv-loop area gate₀ readers₀ gate readers = (gate ≤ gates area) × (length readers ≡ mostSources) × CountsOf readers (readsAfter area gate)
+Inv-loop area gate₀ readers₀ gate readers =
+    (gate ≤ gates area) × (length readers ≡ mostSources) × CountsOf readers (readsAfter area gate)
 
 abbrev μ-loop : tie.MeasureT-loop
-μ-loop area gate₀ readers₀ gate readers = gate
+μ-loop area gate₀ readers₀ gate readers =
+    gate
 
-shared-slice-read-gate : tie.Need-shared-slice-read-gate Inv-loop μ-loop
-shared-slice-read-gate c = search needs
+gates-requires : tie.Need-gates-requires Inv-loop μ-loop
+gates-requires c κs = search needs
 
-cast-gate : tie.Need-cast-gate Inv-loop μ-loop
-cast-gate c = search needs
+outputs-index-requires : tie.Need-outputs-index-requires Inv-loop μ-loop
+outputs-index-requires c κs = search needs
 
-mul-add-reads : tie.Need-mul-add-reads Inv-loop μ-loop
-mul-add-reads c = search needs
-
-add-add-reads : tie.Need-add-add-reads Inv-loop μ-loop
-add-add-reads c = search needs
-
-shared-slice-read-add-reads : tie.Need-shared-slice-read-add-reads Inv-loop μ-loop
-shared-slice-read-add-reads c = search needs
-
-cast-add-reads : tie.Need-cast-add-reads Inv-loop μ-loop
-cast-add-reads c = search needs
+outputs-requires : tie.Need-outputs-requires Inv-loop μ-loop
+outputs-requires c κs = search needs
 
 add-reads-requires : tie.Need-add-reads-requires Inv-loop μ-loop
 add-reads-requires c κs =
-    let start = c .before .before .before .before in
-    let sound = start .pre in
-    (sound .long, (output-source (start .args .area .now) sound, (no-reads, sound .outputs-fit)))
+    let ws = c .before .before .before .before .before .args .area .now in
+    let sound = c .before .before .before .before .before .pre in
+    let first = c .before .outputs-index .ensures in (
+      omega (arith, sound .long),
+      (
+        λ i l. rw (first, c .before .before .before .gates .ensures) (omega (arith, output-source ws sound i (omega arith), few-sources ws sound)),
+        (no-reads, omega (arith, sound .outputs-fit)),
+      ),
+    )
 
 loop-holds : tie.Need-loop-holds Inv-loop μ-loop
 loop-holds c =
-    let ws = c .before .before .before .before .before .args .area .now in
-    (le-refl (gates ws), c .add-reads .ensures .long, first-reads ws (c .add-reads .last .0) (c .add-reads .ensures))
+    let ws = c .before .before .before .before .before .before .args .area .now in
+    let at-gates = c .before .before .before .before .gates .ensures in
+    let added = rw (c .before .before .outputs-index .ensures, at-gates, c .before .outputs .ensures) at (c .add-reads .ensures) in
+    rw at-gates (le-refl (gates ws), added .long, first-reads ws (c .add-reads .last .0) added)
 
 sub-gate : tie.Need-sub-gate Inv-loop μ-loop
 sub-gate c = search needs
@@ -52,9 +53,9 @@ sub-gate c = search needs
 add-gate-requires : tie.Need-add-gate-requires Inv-loop μ-loop
 add-gate-requires c κs =
     let l = c .before .before .loop in
-    let start = c .before .before .before .before .before .before .before .before in
-    let sound = start .pre in
-    ((sound, omega arith), few-reads (start .args .area .now) (l .readers) (l .gate) (sound .gates-fit) (sound .outputs-fit) (l .inv .1) (l .inv .2))
+    let sound = c .before .before .before .before .before .before .before .before .before .pre in
+    let ws = c .before .before .before .before .before .before .before .before .before .args .area .now in
+    ((sound, omega arith), few-reads ws (l .readers) (l .gate) (sound .gates-fit) (sound .outputs-fit) (l .inv .1) (l .inv .2))
 
 loop-less : tie.Need-loop-less Inv-loop μ-loop
 loop-less c = search needs
@@ -62,7 +63,7 @@ loop-less c = search needs
 loop-again : tie.Need-loop-again Inv-loop μ-loop
 loop-again c =
     let l = c .before .before .before .loop in
-    let ws = c .before .before .before .before .before .before .before .before .before .args .area .now in
+    let ws = c .before .before .before .before .before .before .before .before .before .before .args .area .now in
     let same : l .gate ≡ l .gate - 1 + 1 = omega arith in (
       omega arith,
       c .add-gate .ensures .long,
@@ -79,7 +80,7 @@ loop-again c =
 returns : tie.Need-returns Inv-loop μ-loop
 returns c =
     let l = c .before .loop in
-    let ws = c .before .before .before .before .before .before .before .args .area .now in
+    let ws = c .before .before .before .before .before .before .before .before .args .area .now in
     let end : l .gate ≡ 0 = omega arith in
     all-reads ws (l .readers) (subst (λ (g : ℕ). CountsOf (l .readers) (readsAfter ws g)) end (l .inv .2))
 
@@ -89,12 +90,9 @@ count-readers-spec =
     (tie.spec
     Inv-loop
     μ-loop
-    shared-slice-read-gate
-    cast-gate
-    mul-add-reads
-    add-add-reads
-    shared-slice-read-add-reads
-    cast-add-reads
+    gates-requires
+    outputs-index-requires
+    outputs-requires
     add-reads-requires
     loop-holds
     sub-gate

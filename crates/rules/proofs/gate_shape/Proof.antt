@@ -1,20 +1,22 @@
 -- `rules::gate_shape` meets its contract: each test that fails decides. Assumes nothing.
-use borrow.Author.Needs.{needs}
-use borrow.Author.Tests.{le-leb, lt-leb, not-true, not-false}
+use mathlib.Core.Path.{sym, _∙_}
+use borrow.Author.Tests.{le-leb, lt-leb}
 use Rattle.area.specs.Rules.{gateShape}
+use Rattle.rules.proofs.Parts.{yes, no, passed, failed}
+use borrow.Author.Needs.{needs}
 use Rattle.rules.proofs.gate_shape.Statement.{statement}
 use Rattle.rules.proofs.gate_shape.Tie as tie
 
 returns : tie.Need-returns
 unfolding gateShape
-returns c = simp (lt-leb _ _ (c .if1 .taken))
+returns c = sym (failed _ (lt-leb _ _ (c .if1 .taken)))
 
 table-fits-requires : tie.Need-table-fits-requires
 table-fits-requires c κs = search needs
 
 returns-2 : tie.Need-returns-2
 unfolding gateShape
-returns-2 c = simp (le-leb _ _ (c .before .before .if1 .left), ← c .before .table-fits .ensures, not-true (c .before .table-fits .result) (c .if2 .taken))
+returns-2 c = sym (passed _ (le-leb _ _ (c .before .before .if1 .left)) ∙ failed _ (no (c .before .table-fits .ensures) (c .if2 .taken)))
 
 unused-zero-requires : tie.Need-unused-zero-requires
 unused-zero-requires c κs = search needs
@@ -22,14 +24,9 @@ unused-zero-requires c κs = search needs
 returns-3 : tie.Need-returns-3
 unfolding gateShape
 returns-3 c =
-    simp (le-leb _ _ (c .before .before .before .if1 .left), ← c .before .before .table-fits .ensures, not-false (c .before .before .table-fits .result) (c .before .if2 .left)) (c .unused-zero .ensures)
+    let table-passed = yes (c .before .before .table-fits .ensures) (c .before .if2 .left) in
+    c .unused-zero .ensures ∙ sym (passed _ (le-leb _ _ (c .before .before .before .if1 .left)) ∙ passed _ table-passed)
 
 pub gate-shape-spec : {M : Type 1} → statement M
 gate-shape-spec =
-    tie.close
-    (tie.spec
-    returns
-    table-fits-requires
-    returns-2
-    unused-zero-requires
-    returns-3)
+    tie.close (tie.spec returns table-fits-requires returns-2 unused-zero-requires returns-3)

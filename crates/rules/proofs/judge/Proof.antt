@@ -1,155 +1,104 @@
 -- `rules::judge` meets its contract: each test that fails decides, in the order of the refusals. Assumes nothing.
-use Prim.Native.Nat.{ℕ, _≤_}
-use mathlib.Core.Bool.{Bool, true, false}
+use Prim.Native.Nat.{ℕ}
+use mathlib.Core.Bool.{Bool, true}
 use mathlib.Core.List.{List}
-use mathlib.Core.Path.{_≡_, refl, sym, ap, _∙_}
+use mathlib.Core.Path.{_≡_, sym, _∙_}
 use native.Mathlib.Omega.{arith}
-use borrow.Author.Tests.{lt-ltb, le-ltb, not-true, not-false}
-use Rattle.area.specs.Layout.{inputs, gates, outputs}
-use Rattle.area.specs.Rules.{countsInRange}
-use Rattle.rules.specs.Judge.{answerOf, judged}
-use Rattle.rules.proofs.Parts.{refusal-is}
+use borrow.Author.Tests.{le-leb, lt-leb}
+use Rattle.area.specs.Layout.{inputs, gates, outputs, needed}
+use Rattle.area.specs.Rules.{countsInRange, restSound, areaJudgement}
+use Rattle.refusal.specs.Judgement.{refuseUnless}
 use Rattle.rules.proofs.Facts.{counts-hold}
+use Rattle.rules.proofs.Parts.{yes, no, none, last-refused, next, refused}
 use borrow.Author.Needs.{needs}
 use Rattle.rules.proofs.judge.Statement.{statement}
 use Rattle.rules.proofs.judge.Tie as tie
 
--- the area's words, and the test of the counts
+-- the area's words, and the test of their counts
 abbrev words : tie.Start → List ℕ
 words s = s .args .area .now
 
-abbrev Counts : tie.Start → Bool
-Counts s = countsInRange (inputs (words s)) (gates (words s)) (outputs (words s))
+abbrev Counts : List ℕ → Bool
+Counts ws = countsInRange (inputs ws) (gates ws) (outputs ws)
 
-abbrev Fit : List ℕ → Type 0
-Fit ws = (inputs ws ≤ 12) × (gates ws ≤ 1024) × (1 ≤ outputs ws) × (outputs ws ≤ 64)
+abbrev Needed : List ℕ → ℕ
+Needed ws = needed (gates ws) (outputs ws)
 
--- what it says where it passed
-counts-passed : (c : tie.Else2) → Counts (c .before .before .before .before .before .before .before) ≡ true
-counts-passed c = sym (c .before .counts-in-range .ensures) ∙ not-false (c .before .counts-in-range .result) (c .if2 .left)
+-- what the calls say of them
+counted : (c : tie.After-counts-in-range) → c .counts-in-range .result ≡ Counts (words (c .before .before .before .before .before .before))
+counted c = rw (c .before .inputs .ensures, c .before .before .before .gates .ensures, c .before .before .outputs .ensures) at (c .counts-in-range .ensures)
 
-fit : (c : tie.Else2) → Fit (words (c .before .before .before .before .before .before .before))
-fit c = counts-hold _ _ _ (counts-passed c)
+in-range : (c : tie.Else2) → Counts (words (c .before .before .before .before .before .before .before)) ≡ true
+in-range c = yes (counted (c .before)) (c .if2 .left)
+
+room-is : (c : tie.After-needed) → c .needed .result ≡ Needed (words (c .before .before .before .before .before .before .before .before))
+room-is c =
+    let o = c .before .before .before .before in
+    rw (o .before .gates .ensures, o .outputs .ensures) at (c .needed .ensures)
+
+-- past the first three refusals
+abbrev Past : List ℕ → Type 0
+Past ws = areaJudgement ws ≡ refuseUnless (restSound ws) 14 0
+
+past-room : (c : tie.Else3) → Past (words (c .before .before .before .before .before .before .before .before .before))
+unfolding areaJudgement
+past-room c =
+    let head = next 13 0 _ (le-leb _ _ (c .before .before .before .before .before .before .before .if1 .left)) in
+    head ∙ next 14 0 _ (in-range (c .before .before)) ∙ next 13 0 _ (le-leb _ _ (rw (room-is (c .before)) at (c .if3 .left)))
 
 returns : tie.Need-returns
-unfolding judged
-returns c = sym (ap answerOf (refusal-is (words (c .before .before)) true _ _ _ (lt-ltb _ _ (c .if1 .taken)) refl refl refl))
+unfolding areaJudgement
+returns c = sym (refused 13 0 _ (lt-leb _ _ (c .if1 .taken)))
 
-shared-slice-read-gates : tie.Need-shared-slice-read-gates
-shared-slice-read-gates c = search needs
+gates-requires : tie.Need-gates-requires
+gates-requires c κs = search needs
 
-shared-slice-read-outputs : tie.Need-shared-slice-read-outputs
-shared-slice-read-outputs c = search needs
+outputs-requires : tie.Need-outputs-requires
+outputs-requires c κs = search needs
 
-shared-slice-read-counts-in-range : tie.Need-shared-slice-read-counts-in-range
-shared-slice-read-counts-in-range c = search needs
+inputs-requires : tie.Need-inputs-requires
+inputs-requires c κs = search needs
 
 counts-in-range-requires : tie.Need-counts-in-range-requires
 counts-in-range-requires c κs = search needs
 
 returns-2 : tie.Need-returns-2
-unfolding judged
-returns-2 c =
-    sym
-    (ap
-    answerOf
-    (refusal-is
-    (words (c .before .before .before .before .before .before .before))
-    false
-    false
-    _
-    _
-    (le-ltb _ _ (c .before .before .before .before .before .if1 .left))
-    (sym (c .before .counts-in-range .ensures) ∙ not-true (c .before .counts-in-range .result) (c .if2 .taken))
-    refl
-    refl))
+unfolding areaJudgement
+returns-2 c = sym (next 13 0 _ (le-leb _ _ (c .before .before .before .before .before .if1 .left)) ∙ refused 14 0 _ (no (counted (c .before)) (c .if2 .taken)))
 
-cast-if3 : tie.Need-cast-if3
-cast-if3 c = omega (arith, fit c)
-
-mul-if3 : tie.Need-mul-if3
-mul-if3 c = omega (arith, fit c)
-
-add-if3 : tie.Need-add-if3
-add-if3 c = omega (arith, fit c)
-
-cast-if3-2 : tie.Need-cast-if3-2
-cast-if3-2 c = omega (arith, fit c)
-
-add-if3-2 : tie.Need-add-if3-2
-add-if3-2 c = omega (arith, fit c)
+needed-requires : tie.Need-needed-requires
+needed-requires c κs =
+    let fit = counts-hold _ _ _ (in-range c) in
+    (omega arith, omega arith)
 
 returns-3 : tie.Need-returns-3
-unfolding judged
+unfolding areaJudgement
 returns-3 c =
-    sym
-    (ap
-    answerOf
-    (refusal-is
-    (words (c .before .before .before .before .before .before .before .before))
-    false
-    true
-    true
-    _
-    (le-ltb _ _ (c .before .before .before .before .before .before .if1 .left))
-    (counts-passed (c .before))
-    (lt-ltb _ _ (c .if3 .taken))
-    refl))
+    let head = next 13 0 _ (le-leb _ _ (c .before .before .before .before .before .before .before .if1 .left)) in
+    sym (head ∙ next 14 0 _ (in-range (c .before .before)) ∙ refused 13 0 _ (lt-leb _ _ (rw (room-is (c .before)) at (c .if3 .taken))))
 
 rest-sound-requires : tie.Need-rest-sound-requires
 rest-sound-requires c κs =
-    let f = fit (c .before) in
-    (c .if3 .left, (f .0, f .1, f .3))
+    let fit = counts-hold _ _ _ (in-range (c .before .before)) in
+    (rw (room-is (c .before)) at (c .if3 .left), (fit .0, (fit .1, fit .3)))
 
 returns-4 : tie.Need-returns-4
-unfolding judged
-returns-4 c =
-    sym
-    (ap
-    answerOf
-    (refusal-is
-    (words (c .before .before .before .before .before .before .before .before .before .before))
-    false
-    true
-    false
-    false
-    (le-ltb _ _ (c .before .before .before .before .before .before .before .before .if1 .left))
-    (counts-passed (c .before .before .before))
-    (le-ltb _ _ (c .before .before .if3 .left))
-    (sym (c .before .rest-sound .ensures) ∙ not-true (c .before .rest-sound .result) (c .if4 .taken))))
+returns-4 c = sym (past-room (c .before .before) ∙ last-refused 14 0 (no (c .before .rest-sound .ensures) (c .if4 .taken)))
 
 returns-5 : tie.Need-returns-5
-unfolding judged
-returns-5 c =
-    sym
-    (ap
-    answerOf
-    (refusal-is
-    (words (c .before .before .before .before .before .before .before .before .before .before))
-    false
-    true
-    false
-    true
-    (le-ltb _ _ (c .before .before .before .before .before .before .before .before .if1 .left))
-    (counts-passed (c .before .before .before))
-    (le-ltb _ _ (c .before .before .if3 .left))
-    (sym (c .before .rest-sound .ensures) ∙ not-false (c .before .rest-sound .result) (c .if4 .left))))
+returns-5 c = sym (past-room (c .before .before) ∙ none 14 0 (yes (c .before .rest-sound .ensures) (c .if4 .left)))
 
 pub judge-spec : {M : Type 1} → statement M
 judge-spec =
     tie.close
     (tie.spec
     returns
-    shared-slice-read-gates
-    shared-slice-read-outputs
-    shared-slice-read-counts-in-range
+    gates-requires
+    outputs-requires
+    inputs-requires
     counts-in-range-requires
     returns-2
-    cast-if3
-    mul-if3
-    add-if3
-    cast-if3-2
-    add-if3-2
+    needed-requires
     returns-3
     rest-sound-requires
     returns-4

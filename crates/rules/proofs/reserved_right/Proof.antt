@@ -1,9 +1,9 @@
 -- `rules::reserved_right` meets its contract: each test that fails decides. Assumes nothing.
-use mathlib.Core.Bool.{true, false}
-use mathlib.Core.Path.{refl, sym}
+use mathlib.Core.Path.{sym, _∙_}
 use borrow.Author.Tests.{eq-eqb, ne-eqb}
+use Rattle.area.specs.Rules.{reservedRight}
+use Rattle.rules.proofs.Parts.{passed, failed}
 use borrow.Author.Needs.{needs}
-use Rattle.rules.proofs.Parts.{reserved-is}
 use Rattle.rules.proofs.reserved_right.Statement.{statement}
 use Rattle.rules.proofs.reserved_right.Tie as tie
 
@@ -11,20 +11,22 @@ shared-slice-read-if1 : tie.Need-shared-slice-read-if1
 shared-slice-read-if1 c = search needs
 
 returns : tie.Need-returns
-returns c = sym (reserved-is (c .before .before .args .area .now) false _ _ (ne-eqb _ _ (c .if1 .taken)) refl refl)
+unfolding reservedRight
+returns c = sym (failed _ (ne-eqb _ _ (c .if1 .taken)))
 
 shared-slice-read-if2 : tie.Need-shared-slice-read-if2
 shared-slice-read-if2 c = search needs
 
 returns-2 : tie.Need-returns-2
-returns-2 c = sym (reserved-is (c .before .before .before .before .args .area .now) true false _ (eq-eqb _ _ (c .before .before .if1 .left)) (ne-eqb _ _ (c .if2 .taken)) refl)
+unfolding reservedRight
+returns-2 c = sym (passed _ (eq-eqb _ _ (c .before .before .if1 .left)) ∙ failed _ (ne-eqb _ _ (c .if2 .taken)))
 
 shared-slice-read-result : tie.Need-shared-slice-read-result
 shared-slice-read-result c = search needs
 
 returns-3 : tie.Need-returns-3
-returns-3 c =
-    sym (reserved-is (c .before .before .before .before .before .args .area .now) true true _ (eq-eqb _ _ (c .before .before .before .if1 .left)) (eq-eqb _ _ (c .before .if2 .left)) refl)
+unfolding reservedRight
+returns-3 c = sym (passed _ (eq-eqb _ _ (c .before .before .before .if1 .left)) ∙ passed _ (eq-eqb _ _ (c .before .if2 .left)))
 
 pub reserved-right-spec : {M : Type 1} → statement M
 reserved-right-spec =

@@ -2,10 +2,10 @@
 use Prim.Native.Nat.{ℕ, _-_}
 use mathlib.Core.Path.{_≡_, ap, _∙_}
 use native.Mathlib.Omega.{arith}
-use borrow.Author.Needs.{needs}
 use lib.ListN.{take}
 use Rattle.lists.specs.Lists.{allBelow}
 use Rattle.area.specs.Rules.{usedBelow}
+use borrow.Author.Needs.{needs}
 use Rattle.rules.proofs.used_below.Statement.{statement}
 use Rattle.rules.proofs.used_below.Tie as tie
 

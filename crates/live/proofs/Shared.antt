@@ -1,0 +1,37 @@
+-- Refusal 9 from a list of counts is the netlist's; where it does not apply, every gate has at most one reader. Assumes nothing.
+use Prim.Native.Nat.{ℕ, _+_}
+use mathlib.Core.List.{List, []}
+use mathlib.Core.Path.{_≡_, sym, ap, fun-ext, _∙_}
+use native.Mathlib.Omega.{arith}
+use lib.Dec.{leb}
+use lib.ListN.{length, getD}
+use borrow.Author.Tests.{leb-true}
+use Rattle.refusal.specs.declared.Judgement.the-variants.{Fine}
+use Rattle.refusal.proofs.Laws.{unless-fine, lowest-fine, Never, never-unless, never-lowest}
+use Rattle.netlist.specs.Netlist.{Netlist}
+use Rattle.netlist.specs.Live.{readers, SingleReaders}
+use Rattle.area.specs.Layout.{inputs, gates}
+use Rattle.area.specs.Net.{netOf}
+use Rattle.area.proofs.Net.{gate-count, same-readers}
+use Rattle.live.specs.Shared.{gateShared, sharedBy, sharedJudgement}
+
+-- whatever the kinds and chances are
+pub shared-are : (ws xs : List ℕ) → ((s : ℕ) → getD xs s 0 ≡ readers (netOf ws [] []) s) → (kinds chances : List ℕ)
+    → sharedBy (λ s. getD xs s 0) (inputs ws) (gates ws) ≡ sharedJudgement (netOf ws kinds chances)
+unfolding sharedJudgement
+shared-are ws xs counted kinds chances =
+    ap (λ (count : ℕ → ℕ). sharedBy count (inputs ws) (gates ws)) (fun-ext (λ s. counted s ∙ same-readers ws [] [] kinds chances s))
+    ∙ ap (sharedBy (readers (netOf ws kinds chances)) (inputs ws)) (sym (gate-count ws kinds chances))
+
+pub shared-single : (net : Netlist) → sharedJudgement net ≡ Fine → SingleReaders net
+unfolding sharedJudgement SingleReaders
+shared-single net e j l =
+    leb-true (readers net (net .inputs + j)) 1
+    (unless-fine _ 9 j (lowest-fine (gateShared (readers net) (net .inputs)) (length (net .gates)) j l e))
+
+-- refusal 9 is not the number of an area that breaks a rule
+pub shared-never : (net : Netlist) → Never 14 (sharedJudgement net)
+unfolding sharedJudgement
+shared-never net =
+    never-lowest 14 (gateShared (readers net) (net .inputs)) (length (net .gates)) (λ i.
+    never-unless 14 (leb (readers net (net .inputs + i)) 1) 9 i (λ e. omega arith))
