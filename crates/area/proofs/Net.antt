@@ -11,7 +11,7 @@ use Rattle.netlist.specs.Netlist.{noGate, gateAt}
 use Rattle.lists.specs.Lists.{Below}
 use Rattle.netlist.specs.WellFormed.{PinsBelow, WellFormed}
 use Rattle.lists.specs.Lists.{count}
-use Rattle.netlist.specs.Live.{withGate, liveReadsFrom, liveReads, readers, liveAmong, liveGates, firstSharedFrom, firstShared, SingleReaders}
+use Rattle.netlist.specs.Live.{withGate, liveReadsFrom, liveReads, readers, liveAmong, liveGates, SingleReaders}
 use Rattle.area.specs.Layout.{mostSources, inputs, gates, outputs, pinCount, table, pinsIndex, pins, usedPins, outputsIndex, outputWords}
 use Rattle.area.specs.Rules.{NetSound}
 use Rattle.area.specs.Net.{gateOf, gatesFrom, netOf}
@@ -71,10 +71,6 @@ module _ (ws ks cs ls ds : List ℕ) where
   pub same-live-gates : liveGates (netOf ws ks cs) ≡ liveGates (netOf ws ls ds)
   unfolding liveGates
   same-live-gates = ap₂ (λ (rs : List ℕ) (k : ℕ). liveAmong rs (inputs ws) k) same-reads same-gate-count
-
-  pub same-first-shared : firstShared (netOf ws ks cs) ≡ firstShared (netOf ws ls ds)
-  unfolding firstShared
-  same-first-shared = ap₂ (λ (rs : List ℕ) (k : ℕ). firstSharedFrom rs (inputs ws) k) same-reads same-gate-count
 
   pub same-single-readers : SingleReaders (netOf ws ks cs) → SingleReaders (netOf ws ls ds)
   unfolding SingleReaders

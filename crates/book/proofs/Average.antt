@@ -17,7 +17,7 @@ use Rattle.netlist.specs.Netlist.{Netlist}
 use Rattle.netlist.specs.Figures.{reliability}
 use Rattle.lists.specs.Lists.{sumBelow}
 use Rattle.netlist.specs.Average.{totalWeight, averageUnits}
-use Rattle.netlist.proofs.Live.{sum-same}
+use Rattle.lists.proofs.Sums.{sum-same}
 use Rattle.bound.proofs.Average.{average-bound}
 use Rattle.area.specs.Layout.{inputs, gates, patternIndex, pattern, flipIndex, flip}
 use Rattle.lists.specs.Lists.{allZero}
@@ -93,7 +93,7 @@ module _ (ws : List ℕ) (b : Book) (agree : Agree ws b) where
   average-is weights =
       let n = same-input-count ws b agree in
       ap₂ roundDiv
-      (sum-same (2 ^ inputs ws) (λ q. getD weights q 0 * reliabilityAt ws q) (λ q. getD weights q 0 * reliability unitsInOne chanceScale (b .net) q)
+      (sum-same (λ q. getD weights q 0 * reliabilityAt ws q) (λ q. getD weights q 0 * reliability unitsInOne chanceScale (b .net) q) (2 ^ inputs ws)
       (λ q l. ap (λ (r : ℕ). getD weights q 0 * r) (reliability-at q l))
       ∙ ap (λ (k : ℕ). sumBelow (2 ^ k) (λ q. getD weights q 0 * reliability unitsInOne chanceScale (b .net) q)) n)
       (ap (λ (k : ℕ). sumBelow (2 ^ k) (λ q. getD weights q 0)) n)

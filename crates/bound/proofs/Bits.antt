@@ -3,14 +3,14 @@
 use Prim.Native.Nat.{ℕ, _+_, _*_, _^_, _≤_, _<_}
 use mathlib.Core.Bool.{Bool, true, false}
 use mathlib.Core.List.{List, [], _∷_, _++_, map}
-use mathlib.Core.Path.{_≡_, refl, sym, ap, ap₂, subst, fun-ext, _∙_}
+use mathlib.Core.Path.{_≡_, refl, sym, ap, ap₂, fun-ext, _∙_}
 use mathlib.Core.Logic.{_⊎_, inl, inr, ⊎-elim}
 use native.Mathlib.Nat.{pow-zero, pow-succ', one-mul, eq-zero-or-pos}
 use native.Mathlib.Omega.{arith}
-use lib.ListN.{length}
-use Rattle.lists.specs.Lists.{Below}
-use Rattle.lists.specs.Lists.{count}
-use Rattle.netlist.proofs.Count.{count-self, count-append, below-tail}
+use lib.ListN.{length, getD}
+use Rattle.lists.specs.Lists.{count, Below}
+use Rattle.lists.proofs.Counts.{count-self, count-append, count-at}
+use Rattle.lists.proofs.Every.{below-tail, map-same}
 use Rattle.bound.proofs.Mix.{upd, upd-same, upd-other, mix, mix-same, mix-linear, mix-given}
 
 -- F depends on no other bits than those of the sources in rs
@@ -18,18 +18,17 @@ abbrev pub ReadsOnly : List ℕ → ((ℕ → Bool) → ℕ) → Type 0
 ReadsOnly rs F = (e e′ : ℕ → Bool) → ((t : ℕ) → 0 < count t rs → e t ≡ e′ t) → F e ≡ F e′
 
 -- a source that does not stand in rs may change
+unread-at : (rs : List ℕ) (p : ℕ) → count p rs ≡ 0 → (e : ℕ → Bool) (b : Bool) (t : ℕ) → 0 < count t rs → upd e p b t ≡ e t
+unread-at rs p none e b t h = upd-other e p t b (λ q. omega (arith, ap (λ (k : ℕ). count k rs) q))
+
 pub unread : (rs : List ℕ) (F : (ℕ → Bool) → ℕ) → ReadsOnly rs F → (p : ℕ) → count p rs ≡ 0 → (e : ℕ → Bool) (b : Bool) → F (upd e p b) ≡ F e
-unread rs F only p none e b =
-    only (upd e p b) e (λ t h. upd-other e p t b (λ q. let z : 0 < count p rs = subst (λ (k : ℕ). 0 < count k rs) q h in omega arith))
+unread rs F only p none e b = only (upd e p b) e (unread-at rs p none e b)
 
-pub map-unread : (e : ℕ → Bool) (p : ℕ) (b : Bool) (ps : List ℕ) → count p ps ≡ 0 → map (upd e p b) ps ≡ map e ps
-map-unread e p b [] none = refl
-map-unread e p b (r ∷ ps) none =
-    ap₂ _∷_
-    (upd-other e p r b (λ q. let z : count p (p ∷ ps) ≡ 0 = subst (λ (k : ℕ). count p (k ∷ ps) ≡ 0) q none in omega (arith, count-self p ps)))
-    (map-unread e p b ps (omega arith))
+-- errors that agree on the sources in ps
+pub map-agree : (e e′ : ℕ → Bool) (ps : List ℕ) → ((t : ℕ) → 0 < count t ps → e t ≡ e′ t) → map e ps ≡ map e′ ps
+map-agree e e′ ps h = map-same e e′ ps (λ i l. h (getD ps i 0) (count-at (getD ps i 0) ps i l refl))
 
--- no source that may be wrong, with weight w₁, stands twice in rs
+-- no source that may be wrong, with share w₁, stands twice in rs
 abbrev pub Once : (ℕ → ℕ) → List ℕ → Type 0
 Once w₁ rs = (p : ℕ) → 0 < w₁ p → count p rs ≤ 1
 
@@ -122,5 +121,5 @@ module _ (w₀ w₁ : ℕ → ℕ) where
                 let k : count p ps + count p rs ≡ 0 = omega (arith, count-self p (ps ++ rs), count-append p ps rs) in
                 ap₂
                 (λ (bs : List Bool) (x : ℕ). T (b ∷ bs) * x)
-                (map-unread e p c ps (omega arith))
+                (map-agree (upd e p c) e ps (unread-at ps p (omega arith) e c))
                 (unread rs Φ only p (omega arith) e c)

@@ -9,32 +9,29 @@ use native.Mathlib.Decide.{decLe}
 use native.Mathlib.Omega.{arith}
 use lib.ListN.{length, getD, length-map, List·getD-eq-default}
 use lib.Dec.{leb}
-use lib.Pow.{pow-add}
 use borrow.Author.Tests.{leb-false}
 use Rattle.rounding.specs.Rounding.{toUnits, Near}
 use Rattle.figure.specs.Figure.{difference, gateStep, gateFailure}
 use Rattle.figure.proofs.Fold.{foldOver}
-use Rattle.netlist.specs.Netlist.{Gate, Netlist, gateAt, inputValues, pinValues, rightValues}
+use Rattle.netlist.specs.Netlist.{Gate, Netlist, noGate, gateAt, inputValues, pinValues, rightValues}
 use Rattle.netlist.specs.WellFormed.{WellFormed}
 use Rattle.netlist.specs.Exact.{exactSum}
 use Rattle.netlist.specs.Figures.{pinFailures, failures, reliability}
 use Rattle.lists.specs.Lists.{count}
+use Rattle.lists.proofs.Every.{AllFrom}
 use Rattle.netlist.specs.Live.{liveReadsFrom, liveReads, readers, liveGates, SingleReaders}
 use Rattle.netlist.proofs.Values.{inputs-length, input-value, right-input, right-gate}
 use Rattle.netlist.proofs.Failures.{failures-length, failure-input, failure-gate, failures-at-most, start-fold}
-use Rattle.netlist.proofs.Each.{AllFrom}
-use Rattle.netlist.proofs.Live.{count-outputs}
-use Rattle.bound.proofs.Near.{near-at, near-trans, near-cancel, near-weaken}
-use Rattle.bound.proofs.Mix.{mix, mix-sure}
+use Rattle.bound.proofs.Near.{near-at, near-cancel, near-weaken}
 use Rattle.bound.proofs.Bits.{foldBits, Once}
-use Rattle.bound.proofs.Replace.{charges, sumFrom, Local, replace-all, replace-outputs}
-use Rattle.bound.proofs.Rounded.{failing, right-weight, wrong-weight, weights-sum}
-use Rattle.bound.proofs.Local.{right-at-most, outputs-near, gate-near}
+use Rattle.bound.proofs.Replace.{charges, Local, replaced}
+use Rattle.bound.proofs.Rounded.{failing, right-share, wrong-share, shares-sum}
+use Rattle.bound.proofs.Local.{outputs-near, gate-near}
 use Rattle.bound.proofs.Charge.{charge-total, live-total, one-each}
-use Rattle.bound.proofs.Weights.{ifRight, rightGiven, wrongGiven, given-sum}
-use Rattle.bound.proofs.Literal.{literal}
+use Rattle.bound.proofs.Shares.{ifRight, right-at-most, rightGiven, wrongGiven, given-sum}
+use Rattle.bound.proofs.Literal.{errorsFrom, literal}
 
-mul-pow : (a b k : ℕ) → (a * b) ^ k ≡ a ^ k * b ^ k
+pub mul-pow : (a b k : ℕ) → (a * b) ^ k ≡ a ^ k * b ^ k
 mul-pow a b zero = omega (arith, pow-zero (a * b), pow-zero a, pow-zero b, ap₂ _*_ (pow-zero a) (pow-zero b))
 mul-pow a b (suc k) =
     pow-succ' (a * b) k
@@ -51,23 +48,23 @@ module _ (u d : ℕ) (posu : 0 < u) (posd : 0 < d) (net : Netlist) (well : WellF
   f-most s = failures-at-most u d posu posd net well q s
 
   abbrev r : ℕ → ℕ
-  r = right-weight u d f
+  r = right-share u d f
 
   abbrev w : ℕ → ℕ
-  w = wrong-weight u d f
+  w = wrong-share u d f
 
   sums : (s : ℕ) → r s + w s ≡ u * d
-  sums = weights-sum u d f f-most
+  sums = shares-sum u d f f-most
 
   pos : 0 < u * d
   pos = mul-pos posu posd
 
   -- the sum over errors, from errors of the inputs
-  abbrev errorSum : (ℕ → Bool) → ℕ
-  errorSum = sumFrom (net .outputs) (ifRight 1) (rightGiven u d (rightValues net q)) (wrongGiven u d (rightValues net q)) (net .inputs) (net .gates)
+  abbrev pub errorSum : (ℕ → Bool) → ℕ
+  errorSum = errorsFrom u d (net .outputs) (rightValues net q) (net .inputs) (net .gates)
 
   -- the exact sum is that of inputs without errors
-  exact-is : u ^ length (net .gates) * exactSum d net q ≡ errorSum (λ t. false)
+  pub exact-is : u ^ length (net .gates) * exactSum d net q ≡ errorSum (λ t. false)
   unfolding exactSum
   exact-is =
       literal
@@ -108,7 +105,7 @@ module _ (u d : ℕ) (posu : 0 < u) (posd : 0 < d) (net : Netlist) (well : WellF
 
     -- any charges that each gate and the outputs keep by themselves
     pub charged-bound : (charge : Gate → ℕ) (out : ℕ)
-        → AllFrom (Local u (u * d) r w (wrongGiven u d (rightValues net q)) charge) (net .inputs) (net .gates)
+        → AllFrom noGate (Local u (u * d) r w (λ t. wrongGiven u d (rightValues net q)) charge) (net .inputs) (net .gates)
         → Near
         (out * (u * d) ^ length (net .outputs))
         (2 * (reliability u d net q * (u * d) ^ length (net .outputs)))
@@ -118,25 +115,18 @@ module _ (u d : ℕ) (posu : 0 < u) (posd : 0 < d) (net : Netlist) (well : WellF
         (2 * (reliability u d net q * d ^ length (net .gates)))
         (2 * (u * exactSum d net q))
     charged-bound charge out gates outs =
-        let n = net .inputs in
         let G = length (net .gates) in
         let rs = rightValues net q in
         let rel = reliability u d net q in
-        let c = charges (net .outputs) charge n (net .gates) in
-        let all : ℕ = mix r w (n + G) (λ e. ifRight 1 (map e (net .outputs))) in
-        let M : ℕ = (u * d) ^ (n + G) in
-        let K : ℕ = (u * d) ^ n * u ^ G in
-        let outputs-once : Once w (net .outputs) = λ p h. omega (arith, once p h, count-outputs p (net .outputs) n (net .gates)) in
-        let last : Near (out * M) (2 * (rel * M)) (2 * (u * all))
-        = replace-outputs r w (u * d) sums pos u (n + G) out rel (net .outputs) (ifRight 1) (well .outputs-below) outputs-once outs in
-        let first : Near (c * M) (2 * (u * all)) (2 * (u * mix r w n errorSum))
-        = replace-all
+        let c = charges (net .outputs) charge (net .inputs) (net .gates) in
+        let all : Near ((c + out) * (u * d) ^ G) (2 * (rel * (u * d) ^ G)) (2 * (u * errorSum (λ t. false)))
+        = replaced
         (net .outputs)
         (ifRight 1)
-        (rightGiven u d rs)
-        (wrongGiven u d rs)
+        (λ t. rightGiven u d rs)
+        (λ t. wrongGiven u d rs)
         (u * d)
-        (given-sum u d rs)
+        (λ t. given-sum u d rs)
         r
         w
         sums
@@ -144,27 +134,21 @@ module _ (u d : ℕ) (posu : 0 < u) (posd : 0 < d) (net : Netlist) (well : WellF
         u
         right-at-most
         charge
-        n
+        (net .inputs)
         (net .gates)
-        (n + G)
-        refl
+        out
+        rel
+        (λ t l. ap (λ (z : ℕ). d * z) (failure-input u d net (well .pins-below) q t l) ∙ mul-zero d)
         (well .pins-below)
+        (well .outputs-below)
         gates
-        once in
-        let scale : M ≡ K * d ^ G = pow-add (u * d) n G ∙ ap (λ (z : ℕ). (u * d) ^ n * z) (mul-pow u d G) ∙ omega arith in
-        let sure : (t : ℕ) → t < n → w t ≡ 0 = λ t l. ap (λ (z : ℕ). d * z) (failure-input u d net (well .pins-below) q t l) ∙ mul-zero d in
-        let start : mix r w n errorSum ≡ K * exactSum d net q
-        = mix-sure r w (u * d) sums n sure errorSum ∙ ap (λ (z : ℕ). (u * d) ^ n * z) (sym exact-is) ∙ omega arith in
-        let e : out * M + c * M ≡ K * ((c + out) * d ^ G) = ap (λ (z : ℕ). out * z + c * z) scale ∙ omega arith in
-        let a : 2 * (rel * M) ≡ K * (2 * (rel * d ^ G)) = ap (λ (z : ℕ). 2 * (rel * z)) scale ∙ omega arith in
-        let b : 2 * (u * mix r w n errorSum) ≡ K * (2 * (u * exactSum d net q)) = ap (λ (z : ℕ). 2 * (u * z)) start ∙ omega arith in
-        near-cancel
-        K
-        ((c + out) * d ^ G)
-        (2 * (rel * d ^ G))
-        (2 * (u * exactSum d net q))
-        (mul-pos (one-le-pow n (u * d) pos) (one-le-pow G u posu))
-        (near-at e a b (near-trans last first))
+        once
+        outs in
+        let scale : (u * d) ^ G ≡ u ^ G * d ^ G = mul-pow u d G in
+        let e : (c + out) * (u * d) ^ G ≡ u ^ G * ((c + out) * d ^ G) = ap (λ (z : ℕ). (c + out) * z) scale ∙ omega arith in
+        let a : 2 * (rel * (u * d) ^ G) ≡ u ^ G * (2 * (rel * d ^ G)) = ap (λ (z : ℕ). 2 * (rel * z)) scale ∙ omega arith in
+        let b : 2 * (u * errorSum (λ t. false)) ≡ u ^ G * (2 * (u * exactSum d net q)) = ap (λ (z : ℕ). 2 * (u * z)) (sym exact-is) ∙ omega arith in
+        near-cancel (u ^ G) ((c + out) * d ^ G) (2 * (rel * d ^ G)) (2 * (u * exactSum d net q)) (one-le-pow G u posu) (near-at e a b all)
 
     -- a source that may fail is a gate
     abbrev isGate : ℕ → Bool
@@ -177,7 +161,7 @@ module _ (u d : ℕ) (posu : 0 < u) (posd : 0 < d) (net : Netlist) (well : WellF
     abbrev charge : Gate → ℕ
     charge g = 2 + failing isGate (g .pins)
 
-    gates-near : AllFrom (Local u (u * d) r w (wrongGiven u d (rightValues net q)) charge) (net .inputs) (net .gates)
+    gates-near : AllFrom noGate (Local u (u * d) r w (λ t. wrongGiven u d (rightValues net q)) charge) (net .inputs) (net .gates)
     unfolding gateFailure
     gates-near j l =
         let g = gateAt net j in

@@ -1,23 +1,22 @@
 -- The half units add up to three for each live gate: two of its own and one where it is read, for each live gate is read once. Assumes nothing.
-use Prim.Native.Nat.{ℕ, zero, suc, _+_, _*_, _≤_, _<_}
-use mathlib.Core.Bool.{Bool, cond}
+use Prim.Native.Nat.{ℕ, zero, suc, _+_, _-_, _*_, _≤_, _<_}
+use mathlib.Core.Bool.{Bool, true, false, cond}
 use mathlib.Core.List.{List, [], _∷_, _++_}
-use mathlib.Core.Path.{_≡_, refl, sym, ap, ap₂, _∙_}
+use mathlib.Core.Path.{_≡_, refl, sym, ap, ap₂, subst, fun-ext, _∙_}
 use mathlib.Core.Logic.{by-cases, ⊎-elim}
-use native.Mathlib.Nat.{le-refl, add-zero, eq-or-lt-of-le}
+use native.Mathlib.Nat.{le-refl, eq-or-lt-of-le}
 use native.Mathlib.Decide.{decLe}
 use native.Mathlib.Omega.{arith}
 use lib.ListN.{length}
 use lib.Dec.{eqb, leb}
 use borrow.Author.Tests.{le-leb, lt-leb, eq-eqb, ne-eqb}
 use Rattle.figure.specs.Figure.{bitOf}
-use Rattle.netlist.specs.Netlist.{Gate}
-use Rattle.lists.specs.Lists.{Below}
-use Rattle.lists.specs.Lists.{count}
+use Rattle.lists.specs.Lists.{count, Below}
+use Rattle.lists.proofs.Every.{below-tail, AllFrom, all-head, all-tail}
+use Rattle.netlist.specs.Netlist.{Gate, noGate}
+use Rattle.netlist.specs.WellFormed.{pinsBelow}
 use Rattle.netlist.specs.Live.{isLive, withGate, liveReadsFrom, liveAmong}
-use Rattle.netlist.proofs.Count.{below-tail}
-use Rattle.netlist.proofs.Each.{AllFrom, all-head, all-tail, pinsBelow}
-use Rattle.netlist.proofs.Live.{ifLive, count-later, among-step}
+use Rattle.netlist.proofs.Live.{ifLive, reads-with, count-later, among-step}
 use Rattle.bound.proofs.Rounded.{failing}
 use Rattle.bound.proofs.Replace.{charges}
 
@@ -25,12 +24,8 @@ failing-append : (m : ℕ → Bool) (xs ys : List ℕ) → failing m (xs ++ ys) 
 failing-append m [] ys = omega arith
 failing-append m (x ∷ xs) ys = omega (arith, failing-append m xs ys)
 
-failing-with : (m : ℕ → Bool) (s : ℕ) (ps rs : List ℕ) → failing m (withGate s ps rs) ≡ ifLive (count s rs) (failing m ps) + failing m rs
-failing-with m s ps rs = go (count s rs)
-  where
-    go : (c : ℕ) → failing m (cond (isLive c) (ps ++ rs) rs) ≡ ifLive c (failing m ps) + failing m rs
-    go zero = omega arith
-    go (suc c) = failing-append m ps rs
+pub failing-with : (m : ℕ → Bool) (s : ℕ) (ps rs : List ℕ) → failing m (withGate s ps rs) ≡ ifLive (count s rs) (failing m ps) + failing m rs
+failing-with m = reads-with (failing m) (failing-append m)
 
 -- two half units for each live gate and one for each live read of a source that may fail
 pub charge-total : (m : ℕ → Bool) (outputs : List ℕ) (s : ℕ) (gs : List Gate)
@@ -51,74 +46,113 @@ charge-total m outputs s (g ∷ gs) =
     twice (suc c) k = refl
 
 -- a charge of one for each live gate is the number of live gates
-pub live-total : (outputs : List ℕ) (s : ℕ) (gs : List Gate) → AllFrom pinsBelow s gs
+pub live-total : (outputs : List ℕ) (s : ℕ) (gs : List Gate) → AllFrom noGate pinsBelow s gs
     → charges outputs (λ g. 1) s gs ≡ liveAmong (liveReadsFrom outputs s gs) s (length gs)
 live-total outputs s [] below = refl
 live-total outputs s (g ∷ gs) below =
     let later = liveReadsFrom outputs (suc s) gs in
-    ap (λ (k : ℕ). bitOf (isLive (count s later)) + k) (live-total outputs (suc s) gs (all-tail pinsBelow s g gs below))
-    ∙ sym (among-step s (length gs) (g .pins) later (all-head pinsBelow s g gs below))
+    ap (λ (k : ℕ). bitOf (isLive (count s later)) + k) (live-total outputs (suc s) gs (all-tail noGate pinsBelow s g gs below))
+    ∙ sym (among-step s (length gs) (g .pins) later (all-head noGate pinsBelow s g gs below))
 
-failing-below : (s : ℕ) (ps : List ℕ) → Below s ps → failing (leb s) ps ≡ 0
-failing-below s [] below = refl
-failing-below s (p ∷ ps) below =
-    ap₂ _+_ (ap bitOf (lt-leb s p (below 0 (omega arith)))) (failing-below s ps (below-tail s p ps below))
+-- m says of a source that it may fail
+module _ (m : ℕ → Bool) where
+  -- the sources of m from s on
+  abbrev pub sourcesFrom : ℕ → ℕ → Bool
+  sourcesFrom s t = cond (leb s t) (m t) false
 
--- the reads from s on are those of s and those from s + 1 on
-failing-from : (s : ℕ) (rs : List ℕ) → failing (leb s) rs ≡ count s rs + failing (leb (suc s)) rs
-failing-from s [] = refl
-failing-from s (r ∷ rs) = omega (arith, failing-from s rs, one)
-  where
-    one : bitOf (leb s r) ≡ bitOf (eqb s r) + bitOf (leb (suc s) r)
-    one =
-        by-cases
-        (decLe s r)
-        (λ l.
-        ⊎-elim
-        (λ q. omega (arith, ap bitOf (le-leb s r l), ap bitOf (eq-eqb s r q), ap bitOf (lt-leb (suc s) r (omega arith))))
-        (λ k. omega (arith, ap bitOf (le-leb s r l), ap bitOf (ne-eqb s r (λ q. omega arith)), ap bitOf (le-leb (suc s) r k)))
-        (eq-or-lt-of-le l))
-        (λ h.
-        omega (
-          arith,
-          ap bitOf (lt-leb s r (omega arith)),
-          ap bitOf (ne-eqb s r (λ q. omega arith)),
-          ap bitOf (lt-leb (suc s) r (omega arith)),
-        ))
+  -- the live ones of these gates that m has
+  abbrev pub liveWhere : List ℕ → ℕ → List Gate → ℕ
+  liveWhere outputs s [] = 0
+  liveWhere outputs s (g ∷ gs) = cond (m s) (ifLive (count s (liveReadsFrom outputs (suc s) gs)) 1) 0 + liveWhere outputs (suc s) gs
+
+  from-below : (s : ℕ) (ps : List ℕ) → Below s ps → failing (sourcesFrom s) ps ≡ 0
+  from-below s [] below = refl
+  from-below s (p ∷ ps) below =
+      ap₂ _+_ (ap (λ (c : Bool). bitOf (cond c (m p) false)) (lt-leb s p (below 0 (omega arith)))) (from-below s ps (below-tail s p ps below))
+
+  none : (c : Bool) → _≡_ {A = ℕ} (cond c 0 0) 0
+  none true = refl
+  none false = refl
+
+  -- the reads from s on are those of s and those from s + 1 on
+  from-next : (s : ℕ) (rs : List ℕ) → failing (sourcesFrom s) rs ≡ cond (m s) (count s rs) 0 + failing (sourcesFrom (suc s)) rs
+  from-next s [] = omega (arith, none (m s))
+  from-next s (r ∷ rs) = omega (arith, from-next s rs, one, add (m s))
+    where
+      add : (c : Bool) → cond c (bitOf (eqb s r) + count s rs) 0 ≡ cond c (bitOf (eqb s r)) 0 + cond c (count s rs) 0
+      add true = refl
+      add false = refl
+
+      at : (a b e : Bool) → leb s r ≡ a → leb (suc s) r ≡ b → eqb s r ≡ e
+          → bitOf (cond a (m r) false) ≡ cond (m s) (bitOf e) 0 + bitOf (cond b (m r) false)
+          → bitOf (sourcesFrom s r) ≡ cond (m s) (bitOf (eqb s r)) 0 + bitOf (sourcesFrom (suc s) r)
+      at a b e p q k h =
+          ap (λ (x : Bool). bitOf (cond x (m r) false)) p
+          ∙ h
+          ∙ sym (ap₂ (λ (x y : Bool). cond (m s) (bitOf x) 0 + bitOf (cond y (m r) false)) k q)
+
+      one : bitOf (sourcesFrom s r) ≡ cond (m s) (bitOf (eqb s r)) 0 + bitOf (sourcesFrom (suc s) r)
+      one =
+          by-cases
+          (decLe s r)
+          (λ l.
+          ⊎-elim
+          (λ q. at true false true (le-leb s r l) (lt-leb (suc s) r (omega arith)) (eq-eqb s r q) (omega (arith, ap (λ (t : ℕ). bitOf (m t)) q)))
+          (λ k. at true true false (le-leb s r l) (le-leb (suc s) r k) (ne-eqb s r (λ q. omega arith)) (omega (arith, none (m s))))
+          (eq-or-lt-of-le l))
+          (λ h.
+          at false false false (lt-leb s r (omega arith)) (lt-leb (suc s) r (omega arith)) (ne-eqb s r (λ q. omega arith)) (omega (arith, none (m s))))
+
+  -- where each gate that may fail is read at most once, there is at most one read of such a gate for each live one
+  pub one-each-where : (outputs : List ℕ) (s : ℕ) (gs : List Gate) → AllFrom noGate pinsBelow s gs → Below (s + length gs) outputs
+      → ((t : ℕ) → s ≤ t → t < s + length gs → m t ≡ true → count t (liveReadsFrom outputs s gs) ≤ 1)
+      → failing (sourcesFrom s) (liveReadsFrom outputs s gs) ≤ liveWhere outputs s gs
+  one-each-where outputs s [] below outs single = omega (arith, from-below s outputs (λ i l. omega (arith, outs i l)))
+  one-each-where outputs s (g ∷ gs) below outs single =
+      let later = liveReadsFrom outputs (suc s) gs in
+      let pins = all-head noGate pinsBelow s g gs below in
+      let same : (t : ℕ) → s ≤ t → count t (withGate s (g .pins) later) ≡ count t later = λ t l. count-later t s (g .pins) later pins l in
+      let others =
+      one-each-where
+      outputs
+      (suc s)
+      gs
+      (all-tail noGate pinsBelow s g gs below)
+      (λ i l. omega (arith, outs i l))
+      (λ t l k h. omega (arith, single t (omega arith) (omega arith) h, same t (omega arith))) in
+      omega (
+        arith,
+        failing-with (sourcesFrom s) s (g .pins) later,
+        nothing (count s later) (failing (sourcesFrom s) (g .pins)) (from-below s (g .pins) pins),
+        from-next s later,
+        once (m s) (count s later) (λ h. omega (arith, single s (le-refl s) (omega arith) h, same s (le-refl s))),
+      )
+    where
+      nothing : (c k : ℕ) → k ≡ 0 → ifLive c k ≡ 0
+      nothing zero k e = refl
+      nothing (suc c) k e = e
+
+      once : (b : Bool) (c : ℕ) → (b ≡ true → c ≤ 1) → cond b c 0 ≤ cond b (ifLive c 1) 0
+      once true zero l = omega arith
+      once true (suc c) l = l refl
+      once false c l = omega arith
 
 -- where each gate is read at most once, there is at most one read for each live gate
-pub one-each : (outputs : List ℕ) (s : ℕ) (gs : List Gate) → AllFrom pinsBelow s gs → Below (s + length gs) outputs
+pub one-each : (outputs : List ℕ) (s : ℕ) (gs : List Gate) → AllFrom noGate pinsBelow s gs → Below (s + length gs) outputs
     → ((j : ℕ) → j < length gs → count (s + j) (liveReadsFrom outputs s gs) ≤ 1)
     → failing (leb s) (liveReadsFrom outputs s gs) ≤ charges outputs (λ g. 1) s gs
-one-each outputs s [] below outs single = omega (arith, failing-below s outputs (λ i l. omega (arith, outs i l)))
-one-each outputs s (g ∷ gs) below outs single =
-    let later = liveReadsFrom outputs (suc s) gs in
-    let pins = all-head pinsBelow s g gs below in
-    let same : (t : ℕ) → s ≤ t → count t (withGate s (g .pins) later) ≡ count t later = λ t l. count-later t s (g .pins) later pins l in
-    let here : count s later ≤ 1
-    = omega (arith, single 0 (omega arith), ap (λ (t : ℕ). count t (withGate s (g .pins) later)) (add-zero s), same s (le-refl s)) in
-    let others =
-    one-each
-    outputs
-    (suc s)
-    gs
-    (all-tail pinsBelow s g gs below)
-    (λ i l. omega (arith, outs i l))
-    (λ j l.
-    let at : s + suc j ≡ suc s + j = omega arith in
-    omega (arith, single (suc j) (omega arith), ap (λ (t : ℕ). count t (withGate s (g .pins) later)) at, same (suc s + j) (omega arith))) in
-    omega (
-      arith,
-      failing-with (leb s) s (g .pins) later,
-      nothing (count s later) (failing (leb s) (g .pins)) (failing-below s (g .pins) pins),
-      failing-from s later,
-      once (count s later) here,
-    )
+one-each outputs s gs below outs single =
+    let rs = liveReadsFrom outputs s gs in
+    let all : failing (sourcesFrom (λ t. true) s) rs ≡ failing (leb s) rs = ap (λ (m : ℕ → Bool). failing m rs) (fun-ext (λ t. same (leb s t))) in
+    omega (arith, live s gs, one-each-where (λ t. true) outputs s gs below outs (λ t l k h. at t (t - s) (omega arith) (omega arith)))
   where
-    nothing : (c k : ℕ) → k ≡ 0 → ifLive c k ≡ 0
-    nothing zero k e = refl
-    nothing (suc c) k e = e
+    same : (b : Bool) → cond b true false ≡ b
+    same true = refl
+    same false = refl
 
-    once : (c : ℕ) → c ≤ 1 → c ≤ ifLive c 1
-    once zero l = omega arith
-    once (suc c) l = l
+    live : (s : ℕ) (gs : List Gate) → liveWhere (λ t. true) outputs s gs ≡ charges outputs (λ g. 1) s gs
+    live s [] = refl
+    live s (g ∷ gs) = ap (λ (k : ℕ). ifLive (count s (liveReadsFrom outputs (suc s) gs)) 1 + k) (live (suc s) gs)
+
+    at : (t j : ℕ) → s + j ≡ t → j < length gs → count t (liveReadsFrom outputs s gs) ≤ 1
+    at t j e l = subst (λ (i : ℕ). count i (liveReadsFrom outputs s gs) ≤ 1) e (single j l)

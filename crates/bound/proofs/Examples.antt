@@ -1,73 +1,54 @@
--- The bound says something of a real sheet, and refusal 9 is needed for it. Assumes nothing.
+-- The bound says something of a netlist, and refusal 9 is needed for it: 16 units in one, chances in quarters. Assumes nothing.
 use Prim.Native.Nat.{ℕ, zero, suc, _+_, _*_, _≤_, _<_}
+use mathlib.Core.List.{[], _∷_}
+use mathlib.Core.Path.{refl}
 use native.Mathlib.Omega.{arith}
 use lib.ListN.{length}
 use lib.Dec.{le→leb, lit≤, lit<}
-use Rattle.rounding.specs.Rounding.{unitsInOne, roundDiv, blend, toUnits, Near}
+use Rattle.rounding.specs.Rounding.{roundDiv, blend, toUnits, Near}
 use Rattle.figure.specs.Figure.{answer, difference, startValues, gateStep, gateFailure, outputStep}
+use Rattle.lists.proofs.Every.{below-holds}
 use Rattle.netlist.specs.Netlist.{gateAt, rightValues}
-use Rattle.lists.specs.Lists.{Below}
-use Rattle.netlist.specs.WellFormed.{WellFormed}
+use Rattle.netlist.specs.WellFormed.{pinsBelow, WellFormed}
 use Rattle.netlist.specs.Exact.{exactSum}
 use Rattle.netlist.specs.Figures.{failures, reliability}
 use Rattle.netlist.specs.Live.{liveReads, readers, liveGates, SingleReaders}
-use Rattle.netlist.specs.Sheets.{chanceOne, chanceHalf, printed, shared}
+use Rattle.netlist.proofs.Examples.{forgiving, shared}
 use Rattle.bound.specs.Statements.{denominator}
 use Rattle.bound.proofs.Average.{reliability-bound}
 
--- the printed sheet meets what the bound asks
-pub printed-well : WellFormed chanceOne printed
-unfolding chanceOne chanceHalf
-printed-well =
-    record { pins-below = pins; chances = chances; outputs-below = outputs }
+-- a netlist that meets what the bound asks
+pub forgiving-well : WellFormed 4 forgiving
+forgiving-well = record { pins-below = pins; chances = chances; outputs-below = below-holds 4 (3 ∷ []) refl }
   where
-    pins : (j : ℕ) → j < length (printed .gates) → Below (2 + j) (gateAt printed j .pins)
-    pins zero l zero k = lit< tt
-    pins zero l (suc i) k = absurd (omega arith)
-    pins (suc zero) l zero k = lit< tt
-    pins (suc zero) l (suc i) k = absurd (omega arith)
-    pins (suc (suc zero)) l zero k = lit< tt
-    pins (suc (suc zero)) l (suc zero) k = lit< tt
-    pins (suc (suc zero)) l (suc (suc i)) k = absurd (omega arith)
-    pins (suc (suc (suc j))) l i k = absurd (omega arith)
+    pins : (j : ℕ) → j < length (forgiving .gates) → pinsBelow (2 + j) (gateAt forgiving j)
+    pins zero l = below-holds 2 (0 ∷ []) refl
+    pins (suc zero) l = below-holds 3 (2 ∷ 1 ∷ []) refl
+    pins (suc (suc j)) l = absurd (omega arith)
 
-    chances : (j : ℕ) → j < length (printed .gates) → gateAt printed j .chance ≤ chanceOne
+    chances : (j : ℕ) → j < length (forgiving .gates) → gateAt forgiving j .chance ≤ 4
     chances zero l = lit≤ tt
     chances (suc zero) l = lit≤ tt
-    chances (suc (suc zero)) l = lit≤ tt
-    chances (suc (suc (suc j))) l = absurd (omega arith)
+    chances (suc (suc j)) l = absurd (omega arith)
 
-    outputs : Below 5 (printed .outputs)
-    outputs zero l = lit< tt
-    outputs (suc i) l = absurd (omega arith)
-
-pub printed-single : SingleReaders printed
+pub forgiving-single : SingleReaders forgiving
 unfolding SingleReaders readers liveReads
-printed-single zero l = lit≤ tt
-printed-single (suc zero) l = lit≤ tt
-printed-single (suc (suc zero)) l = lit≤ tt
-printed-single (suc (suc (suc j))) l = absurd (omega arith)
+forgiving-single zero l = lit≤ tt
+forgiving-single (suc zero) l = lit≤ tt
+forgiving-single (suc (suc j)) l = absurd (omega arith)
 
-pub one-positive : 0 < chanceOne
-unfolding chanceOne
-one-positive = lit< tt
-
--- so its figures are within four and a half units of the exact ones
-pub printed-bound : (q : ℕ)
-    → Near
-    (9 * denominator chanceOne printed)
-    (2 * (reliability unitsInOne chanceOne printed q * denominator chanceOne printed))
-    (2 * (unitsInOne * exactSum chanceOne printed q))
+-- so its figures are within three units of the exact ones
+pub forgiving-bound : (q : ℕ)
+    → Near (6 * denominator 4 forgiving) (2 * (reliability 16 4 forgiving q * denominator 4 forgiving)) (2 * (16 * exactSum 4 forgiving q))
 unfolding liveGates liveReads
-printed-bound q = reliability-bound unitsInOne chanceOne (lit< tt) one-positive printed printed-well printed-single q
+forgiving-bound q = reliability-bound 16 4 (lit< tt) (lit< tt) forgiving forgiving-well forgiving-single q
 
 -- a gate on two outputs breaks the bound
 pub shared-breaks : Near
-    (3 * liveGates shared * denominator chanceOne shared)
-    (2 * (reliability unitsInOne chanceOne shared 0 * denominator chanceOne shared))
-    (2 * (unitsInOne * exactSum chanceOne shared 0))
+    (3 * liveGates shared * denominator 4 shared)
+    (2 * (reliability 16 4 shared 0 * denominator 4 shared))
+    (2 * (16 * exactSum 4 shared 0))
     → ⊥
 unfolding
-    liveGates liveReads chanceOne chanceHalf exactSum reliability failures rightValues
-    gateFailure gateStep startValues difference answer outputStep blend roundDiv toUnits
-shared-breaks n = le→leb (2 * (unitsInOne * exactSum chanceOne shared 0)) _ (n .down)
+    liveGates liveReads exactSum reliability failures rightValues gateFailure gateStep startValues difference answer outputStep blend roundDiv toUnits
+shared-breaks n = le→leb (2 * (16 * exactSum 4 shared 0)) _ (n .down)

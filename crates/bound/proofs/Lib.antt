@@ -5,7 +5,7 @@ pub mod Replace
 pub mod Rounded
 pub mod Local
 pub mod Charge
-pub mod Weights
+pub mod Shares
 pub mod Literal
 pub mod Bound
 pub mod Average

@@ -10,14 +10,14 @@ use lib.ListN.{length, getD, length-append, List·getD-append}
 use lib.Seq.{getD-at}
 use lib.Arith.{sub-sub-self}
 use Rattle.figure.specs.Figure.{invertIf, inverted, answer}
-use Rattle.netlist.specs.Netlist.{Gate, pinValues, values}
 use Rattle.lists.specs.Lists.{Below}
-use Rattle.netlist.specs.Exact.{sumOverFlips, weight, outputsAgree}
-use Rattle.netlist.proofs.Count.{below-tail}
-use Rattle.netlist.proofs.Each.{AllFrom, all-head, all-tail, pinsBelow}
+use Rattle.lists.proofs.Every.{below-tail, AllFrom, all-head, all-tail}
+use Rattle.netlist.specs.Netlist.{Gate, noGate, pinValues, values}
+use Rattle.netlist.specs.WellFormed.{pinsBelow}
+use Rattle.netlist.specs.Exact.{sumOverFlips, patternChance, outputsAgree}
 use Rattle.bound.proofs.Mix.{upd, upd-same, upd-other}
 use Rattle.bound.proofs.Replace.{sumFrom}
-use Rattle.bound.proofs.Weights.{ifRight, unmoved, keepWeight, flipWeight, rightGiven, wrongGiven}
+use Rattle.bound.proofs.Shares.{ifRight, unmoved, keepShare, flipShare, rightGiven, wrongGiven}
 
 pub sum-scale : (k c : ℕ) (F : List Bool → ℕ) → sumOverFlips k (λ flips. c * F flips) ≡ c * sumOverFlips k F
 sum-scale zero c F = refl
@@ -90,12 +90,21 @@ wrong-next rs s vs e size h v b here i l = ⊎-elim last earlier (eq-or-lt-of-le
         ∙ ap (λ (c : Bool). invertIf c (getD rs i false)) (sym (upd-other e s i b (λ q. omega arith)))
 
 module _ (u d : ℕ) (outputs : List ℕ) (rs : List Bool) where
+  abbrev pub outputsRight : List Gate → List Bool → List Bool → Bool
+  outputsRight gs vs flips = outputsAgree outputs (values gs flips vs) rs
+
   -- the chances of the flip patterns of these gates under which every output is right, from the values vs
   abbrev pub flipSum : List Gate → List Bool → ℕ
-  flipSum gs vs = sumOverFlips (length gs) (λ flips. cond (outputsAgree outputs (values gs flips vs) rs) (weight d gs flips) 0)
+  flipSum gs vs = sumOverFlips (length gs) (λ flips. cond (outputsRight gs vs flips) (patternChance d gs flips) 0)
 
-  abbrev errorSum : ℕ → List Gate → (ℕ → Bool) → ℕ
-  errorSum = sumFrom outputs (ifRight 1) (rightGiven u d rs) (wrongGiven u d rs)
+  -- the sum over errors of the gates from source s on, from errors of the sources before them
+  abbrev pub errorsFrom : ℕ → List Gate → (ℕ → Bool) → ℕ
+  errorsFrom = sumFrom outputs (ifRight 1) (λ t. rightGiven u d rs) (λ t. wrongGiven u d rs)
+
+  flips-scale : (gs : List Gate) (vs : List Bool) (c : ℕ)
+      → sumOverFlips (length gs) (λ flips. cond (outputsRight gs vs flips) (c * patternChance d gs flips) 0) ≡ c * flipSum gs vs
+  flips-scale gs vs c =
+      ap (sumOverFlips (length gs)) (fun-ext (λ flips. cond-scale (outputsRight gs vs flips) c (patternChance d gs flips))) ∙ sum-scale (length gs) c _
 
   flips-first : (g : Gate) (gs : List Gate) (vs : List Bool)
       → flipSum (g ∷ gs) vs
@@ -103,13 +112,7 @@ module _ (u d : ℕ) (outputs : List ℕ) (rs : List Bool) where
       + g .chance * flipSum gs (vs ++ (not (answer (g .table) (pinValues vs (g .pins))) ∷ []))
   flips-first g gs vs =
       let a = answer (g .table) (pinValues vs (g .pins)) in
-      let part : (c : ℕ) (v : Bool)
-      → sumOverFlips (length gs) (λ flips. cond (outputsAgree outputs (values gs flips (vs ++ (v ∷ []))) rs) (c * weight d gs flips) 0)
-      ≡ c * flipSum gs (vs ++ (v ∷ []))
-      = λ c v.
-      ap (sumOverFlips (length gs)) (fun-ext (λ flips. cond-scale (outputsAgree outputs (values gs flips (vs ++ (v ∷ []))) rs) c (weight d gs flips)))
-      ∙ sum-scale (length gs) c (λ flips. cond (outputsAgree outputs (values gs flips (vs ++ (v ∷ []))) rs) (weight d gs flips) 0) in
-      ap₂ _+_ (part (d - g .chance) a) (part (g .chance) (not a))
+      ap₂ _+_ (flips-scale gs (vs ++ (a ∷ [])) (d - g .chance)) (flips-scale gs (vs ++ (not a ∷ [])) (g .chance))
 
   by-case : (m : Bool) (keep flip x y : ℕ) (F : Bool → ℕ) → x ≡ F (wrongBit m false) → y ≡ F (wrongBit m true)
       → keep * x + flip * y ≡ cond m keep flip * F false + cond m flip keep * F true
@@ -117,22 +120,22 @@ module _ (u d : ℕ) (outputs : List ℕ) (rs : List Bool) where
   by-case false keep flip x y F p q = ap₂ (λ (a b : ℕ). keep * a + flip * b) p q ∙ omega arith
 
   pub literal : (s : ℕ) (gs : List Gate) (vs : List Bool) (e : ℕ → Bool) → length vs ≡ s → Wrong rs s vs e
-      → AllFrom pinsBelow s gs → AllFrom (λ t g. g .chance ≤ d) s gs
-      → AllFrom (RightAt rs) s gs
+      → AllFrom noGate pinsBelow s gs → AllFrom noGate (λ t g. g .chance ≤ d) s gs
+      → AllFrom noGate (RightAt rs) s gs
       → Below (s + length gs) outputs
-      → u ^ length gs * flipSum gs vs ≡ errorSum s gs e
+      → u ^ length gs * flipSum gs vs ≡ errorsFrom s gs e
   literal s [] vs e size wrong below chances right outs =
       ap₂ _*_ (pow-zero u) (outputs-wrong rs s vs e wrong outputs (λ i l. omega (arith, outs i l))) ∙ omega arith
   literal s (g ∷ gs) vs e size wrong below chances right outs =
       let a = answer (g .table) (pinValues vs (g .pins)) in
       let r = answer (g .table) (pinValues rs (g .pins)) in
       let pins : pinValues vs (g .pins) ≡ inverted (pinValues rs (g .pins)) (map e (g .pins))
-      = pins-wrong rs s vs e wrong (g .pins) (all-head pinsBelow s g gs below) in
+      = pins-wrong rs s vs e wrong (g .pins) (all-head noGate pinsBelow s g gs below) in
       let m = unmoved rs g (map e (g .pins)) in
       let moved : Bool·beq a r ≡ m = ap (λ (ws : List Bool). Bool·beq (answer (g .table) ws) r) pins in
       let value : (flip : Bool) → invertIf flip a ≡ invertIf (wrongBit m flip) (getD rs s false)
-      = λ flip. bit-value flip a r ∙ ap₂ (λ (c v : Bool). invertIf (wrongBit c flip) v) moved (sym (all-head (RightAt rs) s g gs right)) in
-      let next : (flip : Bool) → u ^ length gs * flipSum gs (vs ++ (invertIf flip a ∷ [])) ≡ errorSum (suc s) gs (upd e s (wrongBit m flip))
+      = λ flip. bit-value flip a r ∙ ap₂ (λ (c v : Bool). invertIf (wrongBit c flip) v) moved (sym (all-head noGate (RightAt rs) s g gs right)) in
+      let next : (flip : Bool) → u ^ length gs * flipSum gs (vs ++ (invertIf flip a ∷ [])) ≡ errorsFrom (suc s) gs (upd e s (wrongBit m flip))
       = λ flip.
       literal
       (suc s)
@@ -141,15 +144,15 @@ module _ (u d : ℕ) (outputs : List ℕ) (rs : List Bool) where
       (upd e s (wrongBit m flip))
       (omega (arith, length-append vs (invertIf flip a ∷ [])))
       (wrong-next rs s vs e size wrong (invertIf flip a) (wrongBit m flip) (value flip))
-      (all-tail pinsBelow s g gs below)
-      (all-tail (λ t g. g .chance ≤ d) s g gs chances)
-      (all-tail (RightAt rs) s g gs right)
+      (all-tail noGate pinsBelow s g gs below)
+      (all-tail noGate (λ t g. g .chance ≤ d) s g gs chances)
+      (all-tail noGate (RightAt rs) s g gs right)
       (λ i l. omega (arith, outs i l)) in
-      let chance : g .chance ≤ d = all-head (λ t g. g .chance ≤ d) s g gs chances in
+      let chance : g .chance ≤ d = all-head noGate (λ t g. g .chance ≤ d) s g gs chances in
       let p = u ^ length gs in
       let f = flipSum gs (vs ++ (a ∷ [])) in
       let t = flipSum gs (vs ++ (not a ∷ [])) in
       ap₂ _*_ (pow-succ' u (length gs)) (flips-first g gs vs)
       ∙ spread u p (d - g .chance) (g .chance) f t
       ∙ ap (λ (z : ℕ). u * (d - g .chance) * (p * f) + u * z * (p * t)) (sym (sub-sub-self chance))
-      ∙ by-case m (keepWeight u d g) (flipWeight u d g) (p * f) (p * t) (λ b. errorSum (suc s) gs (upd e s b)) (next false) (next true)
+      ∙ by-case m (keepShare u d (g .chance)) (flipShare u d (g .chance)) (p * f) (p * t) (λ b. errorsFrom (suc s) gs (upd e s b)) (next false) (next true)

@@ -1,5 +1,5 @@
--- Sums over independent bits. Source s is wrong with weight w₁ s and right with weight w₀ s, of `mass` together; e says of each source whether it is wrong.
--- Assumes nothing.
+-- Sums over independent bits. Source s is right with the share w₀ s and wrong with the share w₁ s, of `mass` together; e says of each source whether
+-- it is wrong. Assumes nothing.
 use Prim.Native.Nat.{ℕ, zero, suc, _+_, _*_, _^_, _≤_, _<_}
 use mathlib.Core.Bool.{Bool, true, false, cond}
 use mathlib.Core.Path.{_≡_, refl, sym, ap, ap₂, subst, fun-ext, _∙_}
@@ -39,7 +39,7 @@ last-sum : (a b m : ℕ) → a + b ≡ m → (x y : ℕ) → m * (a * x + b * y)
 last-sum a b m e x y = omega (arith, ap (λ (z : ℕ). z * (a * x + b * y)) e)
 
 module _ (w₀ w₁ : ℕ → ℕ) where
-  -- the sum of F over the bits of sources below s, each with its weights
+  -- the sum of F over the bits of sources below s, each with its shares
   abbrev pub mix : ℕ → ((ℕ → Bool) → ℕ) → ℕ
   mix zero F = F (λ t. false)
   mix (suc s) F = w₀ s * mix s (λ e. F (upd e s false)) + w₁ s * mix s (λ e. F (upd e s true))

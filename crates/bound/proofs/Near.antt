@@ -1,6 +1,6 @@
--- Arithmetic of `Near`, and the step behind every replacement: two weighted means of the same values, whose weights are near, are near. Assumes nothing.
+-- Arithmetic of `Near`, and the step behind every replacement: two means of the same values, whose shares in them are near, are near. Assumes nothing.
 use Prim.Native.Nat.{ℕ, _+_, _-_, _*_, _≤_, _<_}
-use mathlib.Core.Path.{_≡_, ap, subst₂}
+use mathlib.Core.Path.{_≡_, sym, ap, subst₂}
 use mathlib.Core.Logic.{by-cases}
 use native.Mathlib.Nat.{mul-le-mul, mul-le-mul-left, le-of-mul-le-mul-left}
 use native.Mathlib.Decide.{decLe}
@@ -32,29 +32,27 @@ near-at p q r n = omega arith
 pub near-weaken : {e e′ a b : ℕ} → e ≤ e′ → Near e a b → Near e′ a b
 near-weaken l n = omega arith
 
--- the weight t moves from one value to the other
+-- the share t moves from one value to the other
 moved : (y₀ x₁ t e a b m : ℕ) → t ≤ e → a ≤ m → b ≤ m → Near (e * m) ((y₀ + t) * a + x₁ * b) (y₀ * a + (x₁ + t) * b)
 moved y₀ x₁ t e a b m h ha hb = omega (arith, mul-le-mul h ha, mul-le-mul h hb)
 
--- weights x₀, x₁ and y₀, y₁ with the same sum, and values a, b of at most m
+-- shares x₀, x₁ and y₀, y₁ with the same sum, and values a, b of at most m
+raised : (x₀ x₁ y₀ y₁ e a b m : ℕ) → x₀ + x₁ ≡ y₀ + y₁ → Near e x₁ y₁ → a ≤ m → b ≤ m → x₁ ≤ y₁
+    → Near (e * m) (x₀ * a + x₁ * b) (y₀ * a + y₁ * b)
+raised x₀ x₁ y₀ y₁ e a b m sums n ha hb h =
+    let y : x₁ + (y₁ - x₁) ≡ y₁ = omega arith in
+    let x : y₀ + (y₁ - x₁) ≡ x₀ = omega arith in
+    subst₂ (λ (p q : ℕ). Near (e * m) (p * a + x₁ * b) (y₀ * a + q * b)) x y (moved y₀ x₁ (y₁ - x₁) e a b m (omega arith) ha hb)
+
 pub replace : (x₀ x₁ y₀ y₁ e a b m : ℕ) → x₀ + x₁ ≡ y₀ + y₁ → Near e x₁ y₁ → a ≤ m → b ≤ m
     → Near (e * m) (x₀ * a + x₁ * b) (y₀ * a + y₁ * b)
-replace x₀ x₁ y₀ y₁ e a b m sums n ha hb = by-cases (decLe x₁ y₁) more (λ h. less (omega arith))
-  where
-    more : x₁ ≤ y₁ → Near (e * m) (x₀ * a + x₁ * b) (y₀ * a + y₁ * b)
-    more h =
-        let y : x₁ + (y₁ - x₁) ≡ y₁ = omega arith in
-        let x : y₀ + (y₁ - x₁) ≡ x₀ = omega arith in
-        subst₂ (λ (p q : ℕ). Near (e * m) (p * a + x₁ * b) (y₀ * a + q * b)) x y (moved y₀ x₁ (y₁ - x₁) e a b m (omega arith) ha hb)
+replace x₀ x₁ y₀ y₁ e a b m sums n ha hb =
+    by-cases
+    (decLe x₁ y₁)
+    (raised x₀ x₁ y₀ y₁ e a b m sums n ha hb)
+    (λ h. near-sym (raised y₀ y₁ x₀ x₁ e a b m (sym sums) (near-sym n) ha hb (omega arith)))
 
-    less : y₁ ≤ x₁ → Near (e * m) (x₀ * a + x₁ * b) (y₀ * a + y₁ * b)
-    less h =
-        let y : y₁ + (x₁ - y₁) ≡ x₁ = omega arith in
-        let x : x₀ + (x₁ - y₁) ≡ y₀ = omega arith in
-        near-sym
-        (subst₂ (λ (p q : ℕ). Near (e * m) (p * a + y₁ * b) (x₀ * a + q * b)) x y (moved x₀ y₁ (x₁ - y₁) e a b m (omega arith) ha hb))
-
--- the same with denominators: `full` is the weight of both values together, p a common factor, u the units in one, charge in half units
+-- the same with denominators: `full` is the share of both values together, p a common factor, u the units in one, charge in half units
 pub replace-mean : (u charge p full m w₀ w₁ φ₀ φ₁ a b old new : ℕ) → 0 < p → w₀ + w₁ ≡ full → φ₀ + φ₁ ≡ p * full
     → Near (charge * (p * full)) (2 * (u * (p * w₁))) (2 * (u * φ₁)) → a ≤ m → b ≤ m
     → p * old ≡ φ₀ * a + φ₁ * b → new ≡ w₀ * a + w₁ * b

@@ -1,6 +1,7 @@
 -- The error argument: one gate after another is replaced by an independent bit that is wrong with its rounded failure. Replacing a live gate moves
 -- the sum by that gate's own rounding at most, its charge in half units; replacing a dead gate moves nothing. No error is carried through gates.
--- What a gate does is abstract here: with the pins' errors bs it is right with weight rightGiven g bs and wrong with weight wrongGiven g bs. Assumes nothing.
+-- What a gate does is abstract here: at source s, with the pins' errors bs, it is right with the share rightGiven s g bs and wrong with the share
+-- wrongGiven s g bs. Assumes nothing.
 use Prim.Native.Nat.{ℕ, zero, suc, _+_, _*_, _^_, _≤_, _<_}
 use mathlib.Core.Bool.{Bool, true, false, cond}
 use mathlib.Core.List.{List, [], _∷_, _++_, map, append-nil}
@@ -11,34 +12,29 @@ use lib.ListN.{length}
 use lib.Pow.{pow-add}
 use lib.Dec.{eqb}
 use Rattle.rounding.specs.Rounding.{Near}
-use Rattle.netlist.specs.Netlist.{Gate}
-use Rattle.lists.specs.Lists.{Below}
-use Rattle.lists.specs.Lists.{count}
+use Rattle.lists.specs.Lists.{count, Below}
+use Rattle.lists.proofs.Counts.{count-append}
+use Rattle.lists.proofs.Every.{AllFrom, all-head, all-tail}
+use Rattle.netlist.specs.Netlist.{Gate, noGate}
+use Rattle.netlist.specs.WellFormed.{pinsBelow}
 use Rattle.netlist.specs.Live.{isLive, liveReadsFrom}
-use Rattle.netlist.proofs.Count.{count-self, count-append}
-use Rattle.netlist.proofs.Each.{AllFrom, all-head, all-tail, pinsBelow}
-use Rattle.netlist.proofs.Live.{ifLive}
+use Rattle.netlist.proofs.Live.{ifLive, count-outputs}
 use Rattle.bound.proofs.Near.{near-at, near-trans, near-scale, near-cancel, replace-mean}
-use Rattle.bound.proofs.Mix.{upd, mix, mix-same, mix-linear, mix-add, mix-const, mix-at-most}
-use Rattle.bound.proofs.Bits.{ReadsOnly, unread, foldBits, bits-add, bits-const, Once, fold-law}
-
-map-agree : (e e′ : ℕ → Bool) (ps : List ℕ) → ((t : ℕ) → 0 < count t ps → e t ≡ e′ t) → map e ps ≡ map e′ ps
-map-agree e e′ [] h = refl
-map-agree e e′ (p ∷ ps) h =
-    ap₂ _∷_ (h p (omega (arith, count-self p ps))) (map-agree e e′ ps (λ t k. h t (omega arith)))
+use Rattle.bound.proofs.Mix.{upd, mix, mix-same, mix-linear, mix-add, mix-const, mix-at-most, mix-sure}
+use Rattle.bound.proofs.Bits.{ReadsOnly, unread, map-agree, foldBits, bits-add, bits-const, Once, fold-law}
 
 -- the charges of the live ones of these gates
 abbrev pub charges : List ℕ → (Gate → ℕ) → ℕ → List Gate → ℕ
 charges outputs charge s [] = 0
 charges outputs charge s (g ∷ gs) = ifLive (count s (liveReadsFrom outputs (suc s) gs)) (charge g) + charges outputs charge (suc s) gs
 
--- a gate at source s by itself: with independent pins it is wrong with weight wrongGiven, nearly the weight of its bit; `charge` in half units, u units in one
-abbrev pub Local : ℕ → ℕ → (ℕ → ℕ) → (ℕ → ℕ) → (Gate → List Bool → ℕ) → (Gate → ℕ) → ℕ → Gate → Type 0
+-- a gate at source s by itself: with independent pins it is wrong with the share wrongGiven, nearly that of its bit; `charge` in half units, u units in one
+abbrev pub Local : ℕ → ℕ → (ℕ → ℕ) → (ℕ → ℕ) → (ℕ → Gate → List Bool → ℕ) → (Gate → ℕ) → ℕ → Gate → Type 0
 Local u mass w₀ w₁ wrongGiven charge s g =
     Near
     (charge g * (mass ^ length (g .pins) * mass))
     (2 * (u * (mass ^ length (g .pins) * w₁ s)))
-    (2 * (u * foldBits w₀ w₁ (g .pins) (wrongGiven g)))
+    (2 * (u * foldBits w₀ w₁ (g .pins) (wrongGiven s g)))
 
 -- the outputs are folded like a gate's pins; rel is the rounded fold, `charge` half units away at most
 module _ (w₀ w₁ : ℕ → ℕ) (mass : ℕ) (sums : (s : ℕ) → w₀ s + w₁ s ≡ mass) (pos : 0 < mass) where
@@ -66,23 +62,23 @@ module _ (w₀ w₁ : ℕ → ℕ) (mass : ℕ) (sums : (s : ℕ) → w₀ s + w
       (one-le-pow (length outputs) mass pos)
       (near-at e a b (near-scale (mass ^ end) near))
 
-module _ (outputs : List ℕ) (allRight : List Bool → ℕ) (rightGiven wrongGiven : Gate → List Bool → ℕ) where
+module _ (outputs : List ℕ) (allRight : List Bool → ℕ) (rightGiven wrongGiven : ℕ → Gate → List Bool → ℕ) where
   -- the sum over the flips of these gates, from the errors e of the sources before them
   abbrev pub sumFrom : ℕ → List Gate → (ℕ → Bool) → ℕ
   sumFrom s [] e = allRight (map e outputs)
   sumFrom s (g ∷ gs) e =
-      rightGiven g (map e (g .pins)) * sumFrom (suc s) gs (upd e s false) + wrongGiven g (map e (g .pins)) * sumFrom (suc s) gs (upd e s true)
+      rightGiven s g (map e (g .pins)) * sumFrom (suc s) gs (upd e s false) + wrongGiven s g (map e (g .pins)) * sumFrom (suc s) gs (upd e s true)
 
-  module _ (mass : ℕ) (gate-sums : (g : Gate) (bs : List Bool) → rightGiven g bs + wrongGiven g bs ≡ mass) where
-    sum-at-most : ((bs : List Bool) → allRight bs ≤ 1) → (s : ℕ) (gs : List Gate) (e : ℕ → Bool) → sumFrom s gs e ≤ mass ^ length gs
+  module _ (mass : ℕ) (gate-sums : (s : ℕ) (g : Gate) (bs : List Bool) → rightGiven s g bs + wrongGiven s g bs ≡ mass) where
+    pub sum-at-most : ((bs : List Bool) → allRight bs ≤ 1) → (s : ℕ) (gs : List Gate) (e : ℕ → Bool) → sumFrom s gs e ≤ mass ^ length gs
     sum-at-most one s [] e = omega (arith, pow-zero mass, one (map e outputs))
     sum-at-most one s (g ∷ gs) e =
         let bs = map e (g .pins) in
         omega (
           arith,
-          mul-le-mul-left (rightGiven g bs) (sum-at-most one (suc s) gs (upd e s false)),
-          mul-le-mul-left (wrongGiven g bs) (sum-at-most one (suc s) gs (upd e s true)),
-          ap (λ (z : ℕ). z * mass ^ length gs) (gate-sums g bs),
+          mul-le-mul-left (rightGiven s g bs) (sum-at-most one (suc s) gs (upd e s false)),
+          mul-le-mul-left (wrongGiven s g bs) (sum-at-most one (suc s) gs (upd e s true)),
+          ap (λ (z : ℕ). z * mass ^ length gs) (gate-sums s g bs),
           pow-succ' mass (length gs),
         )
 
@@ -91,7 +87,7 @@ module _ (outputs : List ℕ) (allRight : List Bool → ℕ) (rightGiven wrongGi
         → sumFrom s (g ∷ gs) e ≡ mass * z
     dead-sum s g gs e z f t =
         let bs = map e (g .pins) in
-        ap₂ (λ (x y : ℕ). rightGiven g bs * x + wrongGiven g bs * y) f t ∙ omega (arith, ap (λ (k : ℕ). k * z) (gate-sums g bs))
+        ap₂ (λ (x y : ℕ). rightGiven s g bs * x + wrongGiven s g bs * y) f t ∙ omega (arith, ap (λ (k : ℕ). k * z) (gate-sums s g bs))
 
     -- what follows a dead gate reads it nowhere, and so none of its pins
     reads-dead : (s : ℕ) (g : Gate) (gs : List Gate) (later : List ℕ) → ReadsOnly later (sumFrom (suc s) gs) → count s later ≡ 0
@@ -111,7 +107,7 @@ module _ (outputs : List ℕ) (allRight : List Bool → ℕ) (rightGiven wrongGi
         let pins : map e (g .pins) ≡ map e′ (g .pins) = map-agree e e′ (g .pins) (λ t k. h t (omega (arith, count-append t (g .pins) later))) in
         let after : (b : Bool) → Z (upd e s b) ≡ Z (upd e′ s b)
         = λ b. only (upd e s b) (upd e′ s b) (λ t k. ap (cond (eqb t s) b) (h t (omega (arith, count-append t (g .pins) later)))) in
-        ap₂ _+_ (ap₂ _*_ (ap (rightGiven g) pins) (after false)) (ap₂ _*_ (ap (wrongGiven g) pins) (after true))
+        ap₂ _+_ (ap₂ _*_ (ap (rightGiven s g) pins) (after false)) (ap₂ _*_ (ap (wrongGiven s g) pins) (after true))
 
     -- what follows a gate reads only the live reads after it
     pub sum-reads : (s : ℕ) (gs : List Gate) → ReadsOnly (liveReadsFrom outputs s gs) (sumFrom s gs)
@@ -149,14 +145,16 @@ module _ (outputs : List ℕ) (allRight : List Bool → ℕ) (rightGiven wrongGi
             let B : (ℕ → Bool) → ℕ = λ e. sumFrom (suc s) gs (upd e s true) in
             let reads : (b : Bool) → ReadsOnly (liveReadsFrom outputs (suc s) gs) (λ e. sumFrom (suc s) gs (upd e s b))
             = λ b e e′ h. sum-reads (suc s) gs (upd e s b) (upd e′ s b) (λ t k. ap (cond (eqb t s) b) (h t k)) in
-            let low : mass ^ length ps * M (λ e. rightGiven g (map e ps) * A e) ≡ foldBits w₀ w₁ ps (rightGiven g) * M A
-            = fold-law w₀ w₁ mass sums s (liveReadsFrom outputs (suc s) gs) A (reads false) ps below once (rightGiven g) in
-            let high : mass ^ length ps * M (λ e. wrongGiven g (map e ps) * B e) ≡ foldBits w₀ w₁ ps (wrongGiven g) * M B
-            = fold-law w₀ w₁ mass sums s (liveReadsFrom outputs (suc s) gs) B (reads true) ps below once (wrongGiven g) in
-            let parts : M (sumFrom s (g ∷ gs)) ≡ M (λ e. rightGiven g (map e ps) * A e) + M (λ e. wrongGiven g (map e ps) * B e)
-            = mix-add w₀ w₁ s (λ e. rightGiven g (map e ps) * A e) (λ e. wrongGiven g (map e ps) * B e) in
-            let whole : foldBits w₀ w₁ ps (rightGiven g) + foldBits w₀ w₁ ps (wrongGiven g) ≡ mass ^ length ps * mass
-            = sym (bits-add w₀ w₁ ps (rightGiven g) (wrongGiven g)) ∙ ap (foldBits w₀ w₁ ps) (fun-ext (gate-sums g)) ∙ bits-const w₀ w₁ mass sums ps mass in
+            let low : mass ^ length ps * M (λ e. rightGiven s g (map e ps) * A e) ≡ foldBits w₀ w₁ ps (rightGiven s g) * M A
+            = fold-law w₀ w₁ mass sums s (liveReadsFrom outputs (suc s) gs) A (reads false) ps below once (rightGiven s g) in
+            let high : mass ^ length ps * M (λ e. wrongGiven s g (map e ps) * B e) ≡ foldBits w₀ w₁ ps (wrongGiven s g) * M B
+            = fold-law w₀ w₁ mass sums s (liveReadsFrom outputs (suc s) gs) B (reads true) ps below once (wrongGiven s g) in
+            let parts : M (sumFrom s (g ∷ gs)) ≡ M (λ e. rightGiven s g (map e ps) * A e) + M (λ e. wrongGiven s g (map e ps) * B e)
+            = mix-add w₀ w₁ s (λ e. rightGiven s g (map e ps) * A e) (λ e. wrongGiven s g (map e ps) * B e) in
+            let whole : foldBits w₀ w₁ ps (rightGiven s g) + foldBits w₀ w₁ ps (wrongGiven s g) ≡ mass ^ length ps * mass
+            = sym (bits-add w₀ w₁ ps (rightGiven s g) (wrongGiven s g))
+            ∙ ap (foldBits w₀ w₁ ps) (fun-ext (gate-sums s g))
+            ∙ bits-const w₀ w₁ mass sums ps mass in
             replace-mean
             u
             (charge g)
@@ -165,8 +163,8 @@ module _ (outputs : List ℕ) (allRight : List Bool → ℕ) (rightGiven wrongGi
             (mass ^ s * mass ^ length gs)
             (w₀ s)
             (w₁ s)
-            (foldBits w₀ w₁ ps (rightGiven g))
-            (foldBits w₀ w₁ ps (wrongGiven g))
+            (foldBits w₀ w₁ ps (rightGiven s g))
+            (foldBits w₀ w₁ ps (wrongGiven s g))
             (M A)
             (M B)
             (M (sumFrom s (g ∷ gs)))
@@ -201,8 +199,8 @@ module _ (outputs : List ℕ) (allRight : List Bool → ℕ) (rightGiven wrongGi
         later-once (suc c) ps rs once p h = omega (arith, once p h, count-append p ps rs)
 
         -- all gates replaced, the first first
-        pub replace-all : (s : ℕ) (gs : List Gate) (end : ℕ) → s + length gs ≡ end → AllFrom pinsBelow s gs
-            → AllFrom (Local u mass w₀ w₁ wrongGiven charge) s gs → Once w₁ (liveReadsFrom outputs s gs)
+        pub replace-all : (s : ℕ) (gs : List Gate) (end : ℕ) → s + length gs ≡ end → AllFrom noGate pinsBelow s gs
+            → AllFrom noGate (Local u mass w₀ w₁ wrongGiven charge) s gs → Once w₁ (liveReadsFrom outputs s gs)
             → Near
             (charges outputs charge s gs * mass ^ end)
             (2 * (u * mix w₀ w₁ end (λ e. allRight (map e outputs))))
@@ -213,14 +211,47 @@ module _ (outputs : List ℕ) (allRight : List Bool → ℕ) (rightGiven wrongGi
             omega (arith, ap (λ (z : ℕ). u * z) same)
         replace-all s (g ∷ gs) end e below near once =
             let c = count s (liveReadsFrom outputs (suc s) gs) in
-            let first = step s g gs end e (all-head pinsBelow s g gs below) (all-head (Local u mass w₀ w₁ wrongGiven charge) s g gs near) c refl once in
+            let pins = all-head noGate pinsBelow s g gs below in
+            let own = all-head noGate (Local u mass w₀ w₁ wrongGiven charge) s g gs near in
+            let first = step s g gs end e pins own c refl once in
             let others =
             replace-all
             (suc s)
             gs
             end
             (omega arith)
-            (all-tail pinsBelow s g gs below)
-            (all-tail (Local u mass w₀ w₁ wrongGiven charge) s g gs near)
+            (all-tail noGate pinsBelow s g gs below)
+            (all-tail noGate (Local u mass w₀ w₁ wrongGiven charge) s g gs near)
             (later-once c (g .pins) (liveReadsFrom outputs (suc s) gs) once) in
             near-at (omega arith) refl refl (near-trans others first)
+
+        -- the general bound: n inputs that are never wrong, then these gates, then the outputs, each with a charge that it keeps by itself
+        pub replaced : (n : ℕ) (gs : List Gate) (out rel : ℕ) → ((t : ℕ) → t < n → w₁ t ≡ 0) → AllFrom noGate pinsBelow n gs → Below (n + length gs) outputs
+            → AllFrom noGate (Local u mass w₀ w₁ wrongGiven charge) n gs → Once w₁ (liveReadsFrom outputs n gs)
+            → Near (out * mass ^ length outputs) (2 * (rel * mass ^ length outputs)) (2 * (u * foldBits w₀ w₁ outputs allRight))
+            → Near
+            ((charges outputs charge n gs + out) * mass ^ length gs)
+            (2 * (rel * mass ^ length gs))
+            (2 * (u * sumFrom n gs (λ t. false)))
+        replaced n gs out rel sure below outs near once outs-near =
+            let G = length gs in
+            let c = charges outputs charge n gs in
+            let M : ℕ = mass ^ (n + G) in
+            let K : ℕ = mass ^ n in
+            let all : ℕ = mix w₀ w₁ (n + G) (λ e. allRight (map e outputs)) in
+            let outs-once : Once w₁ outputs = λ p h. omega (arith, once p h, count-outputs p outputs n gs) in
+            let last : Near (out * M) (2 * (rel * M)) (2 * (u * all))
+            = replace-outputs w₀ w₁ mass sums pos u (n + G) out rel outputs allRight outs outs-once outs-near in
+            let first : Near (c * M) (2 * (u * all)) (2 * (u * mix w₀ w₁ n (sumFrom n gs))) = replace-all n gs (n + G) refl below near once in
+            let scale : M ≡ K * mass ^ G = pow-add mass n G in
+            let e : out * M + c * M ≡ K * ((c + out) * mass ^ G) = ap (λ (z : ℕ). out * z + c * z) scale ∙ omega arith in
+            let a : 2 * (rel * M) ≡ K * (2 * (rel * mass ^ G)) = ap (λ (z : ℕ). 2 * (rel * z)) scale ∙ omega arith in
+            let b : 2 * (u * mix w₀ w₁ n (sumFrom n gs)) ≡ K * (2 * (u * sumFrom n gs (λ t. false)))
+            = ap (λ (z : ℕ). 2 * (u * z)) (mix-sure w₀ w₁ mass sums n sure (sumFrom n gs)) ∙ omega arith in
+            near-cancel
+            K
+            ((c + out) * mass ^ G)
+            (2 * (rel * mass ^ G))
+            (2 * (u * sumFrom n gs (λ t. false)))
+            (one-le-pow n mass pos)
+            (near-at e a b (near-trans last first))

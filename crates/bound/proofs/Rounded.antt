@@ -39,15 +39,15 @@ abbrev pub failing : (ℕ → Bool) → List ℕ → ℕ
 failing mayFail [] = 0
 failing mayFail (p ∷ ps) = bitOf (mayFail p) + failing mayFail ps
 
--- the weights of a source's bit, right and wrong, of u * d together: f s is its failure
-abbrev pub right-weight : ℕ → ℕ → (ℕ → ℕ) → ℕ → ℕ
-right-weight u d f s = d * (u - f s)
+-- the shares of a source's bit, right and wrong, of u * d together: f s is its failure
+abbrev pub right-share : ℕ → ℕ → (ℕ → ℕ) → ℕ → ℕ
+right-share u d f s = d * (u - f s)
 
-abbrev pub wrong-weight : ℕ → ℕ → (ℕ → ℕ) → ℕ → ℕ
-wrong-weight u d f s = d * f s
+abbrev pub wrong-share : ℕ → ℕ → (ℕ → ℕ) → ℕ → ℕ
+wrong-share u d f s = d * f s
 
-pub weights-sum : (u d : ℕ) (f : ℕ → ℕ) → ((s : ℕ) → f s ≤ u) → (s : ℕ) → right-weight u d f s + wrong-weight u d f s ≡ u * d
-weights-sum u d f f-most s = omega (arith, ap (λ (z : ℕ). d * z) (sub-add-cancel (f-most s)))
+pub shares-sum : (u d : ℕ) (f : ℕ → ℕ) → ((s : ℕ) → f s ≤ u) → (s : ℕ) → right-share u d f s + wrong-share u d f s ≡ u * d
+shares-sum u d f f-most s = omega (arith, ap (λ (z : ℕ). d * z) (sub-add-cancel (f-most s)))
 
 module _ (u d : ℕ) (posu : 0 < u) (f : ℕ → ℕ) (f-most : (s : ℕ) → f s ≤ u)
     (mayFail : ℕ → Bool) (never : (s : ℕ) → mayFail s ≡ false → f s ≡ 0) where
@@ -56,7 +56,7 @@ module _ (u d : ℕ) (posu : 0 < u) (f : ℕ → ℕ) (f-most : (s : ℕ) → f 
       → Near
       ((k + bitOf c) * (u * d * x))
       (2 * (blend u (W (false ∷ bs)) (W (true ∷ bs)) (f p) * (u * d * x)))
-      (2 * (u * (right-weight u d f p * X (false ∷ bs) + wrong-weight u d f p * X (true ∷ bs))))
+      (2 * (u * (right-share u d f p * X (false ∷ bs) + wrong-share u d f p * X (true ∷ bs))))
   pin-near p k x W X h true e bs =
       mean-near
       u
@@ -80,20 +80,20 @@ module _ (u d : ℕ) (posu : 0 < u) (f : ℕ → ℕ) (f-most : (s : ℕ) → f 
       let a = X (false ∷ bs) in
       let b = X (true ∷ bs) in
       let kept : r ≡ blend u r (W (true ∷ bs)) (f p) = sym (ap (blend u r (W (true ∷ bs))) zero-f ∙ blend-none u r (W (true ∷ bs)) posu) in
-      let all-right : d * u ≡ right-weight u d f p = sym (ap (λ (z : ℕ). d * (u - z)) zero-f ∙ ap (λ (z : ℕ). d * z) (sub-zero u)) in
-      let none-wrong : 0 ≡ wrong-weight u d f p = sym (ap (λ (z : ℕ). d * z) zero-f ∙ mul-zero d) in
+      let all-right : d * u ≡ right-share u d f p = sym (ap (λ (z : ℕ). d * (u - z)) zero-f ∙ ap (λ (z : ℕ). d * z) (sub-zero u)) in
+      let none-wrong : 0 ≡ wrong-share u d f p = sym (ap (λ (z : ℕ). d * z) zero-f ∙ mul-zero d) in
       let value : u * d * (2 * (r * x)) ≡ 2 * (blend u r (W (true ∷ bs)) (f p) * (u * d * x))
       = omega arith ∙ ap (λ (z : ℕ). 2 * (z * (u * d * x))) kept in
-      let exact : u * d * (2 * (u * a)) ≡ 2 * (u * (right-weight u d f p * a + wrong-weight u d f p * b))
+      let exact : u * d * (2 * (u * a)) ≡ 2 * (u * (right-share u d f p * a + wrong-share u d f p * b))
       = omega arith ∙ ap₂ (λ (y z : ℕ). 2 * (u * (y * a + z * b))) all-right none-wrong in
       near-at (omega arith) value exact (near-scale (u * d) (h (false ∷ bs)))
 
-  -- the fold in whole units against the fold of weights
+  -- the fold in whole units against the fold of shares
   pub fold-near : (ps : List ℕ) (k x : ℕ) (W X : List Bool → ℕ) → ((bs : List Bool) → Near (k * x) (2 * (W bs * x)) (2 * (u * X bs)))
       → Near
       ((k + failing mayFail ps) * ((u * d) ^ length ps * x))
       (2 * (foldOver u (map f ps) W * ((u * d) ^ length ps * x)))
-      (2 * (u * foldBits (right-weight u d f) (wrong-weight u d f) ps X))
+      (2 * (u * foldBits (right-share u d f) (wrong-share u d f) ps X))
   fold-near [] k x W X h =
       let scale : x ≡ (u * d) ^ 0 * x = omega (arith, ap (λ (z : ℕ). z * x) (pow-zero (u * d))) in
       near-at (ap₂ _*_ (sym (add-zero k)) scale) (ap (λ (z : ℕ). 2 * (W [] * z)) scale) refl (h [])
@@ -106,7 +106,7 @@ module _ (u d : ℕ) (posu : 0 < u) (f : ℕ → ℕ) (f-most : (s : ℕ) → f 
       (k + bitOf (mayFail p))
       (u * d * x)
       W′
-      (λ bs. right-weight u d f p * X (false ∷ bs) + wrong-weight u d f p * X (true ∷ bs))
+      (λ bs. right-share u d f p * X (false ∷ bs) + wrong-share u d f p * X (true ∷ bs))
       (pin-near p k x W X h (mayFail p) refl) in
       near-at (ap₂ _*_ (omega arith) scale) (ap (λ (z : ℕ). 2 * (foldOver u (map f ps) W′ * z)) scale) refl ih
 

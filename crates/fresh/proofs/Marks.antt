@@ -13,7 +13,7 @@ use borrow.Author.Tests.{eqb-true}
 use Rattle.netlist.specs.Netlist.{Gate, Netlist, gateAt}
 use Rattle.lists.specs.Lists.{count}
 use Rattle.netlist.specs.Live.{Depends, reads, reads-further}
-use Rattle.netlist.proofs.Count.{count-at, count-index, below-count}
+use Rattle.lists.proofs.Counts.{count-at, count-index, below-count}
 use Rattle.netlist.proofs.Live.{depends-earlier}
 use Rattle.area.specs.Layout.{mostSources, inputs, gates, usedPins}
 use Rattle.area.specs.Rules.{Sound}

@@ -2,14 +2,16 @@
 -- and the test as a fact both ways. Assumes nothing.
 use Prim.Native.Nat.{ℕ, zero, suc, _+_, _-_, _≤_, _<_}
 use mathlib.Core.Bool.{Bool, true, false, _&&_, and-eq-true-iff}
-use mathlib.Core.List.{List}
-use mathlib.Core.Path.{_≡_, refl, sym, ap, _∙_}
+use mathlib.Core.List.{List, [], _∷_, _++_, map}
+use mathlib.Core.Path.{_≡_, refl, sym, ap, ap₂, subst, _∙_}
+use native.Mathlib.Nat.{add-zero}
 use native.Mathlib.Numerals.{add-one}
 use native.Mathlib.Omega.{arith}
 use lib.Dec.{ltb, eqb}
 use lib.ListN.{length, getD, take, drop}
 use lib.Seq.{drop-cons, drop-length}
-use Rattle.lists.specs.Lists.{allZero, allBelow, everyFrom}
+use borrow.Author.Tests.{ltb-true, lt-ltb, eqb-true, eq-eqb}
+use Rattle.lists.specs.Lists.{allZero, allBelow, everyFrom, Below}
 
 -- a loop up to n, at j: a turn that passes, a turn that fails, the end
 module _ (t : ℕ → Bool) (j n : ℕ) where
@@ -72,3 +74,55 @@ hold-all t k f = holds-every t 0 k (λ i h. ap t (same i) ∙ f i h)
   where
     same : (i : ℕ) → 0 + i ≡ i
     same i = omega arith
+
+pub below-tail : (b x : ℕ) (xs : List ℕ) → Below b (x ∷ xs) → Below b xs
+below-tail b x xs h i l = h (suc i) (omega arith)
+
+-- the tests of every entry as facts and back; past the end getD has 0
+pub zero-holds : (xs : List ℕ) → allZero xs ≡ true → (i : ℕ) → getD xs i 0 ≡ 0
+zero-holds [] e i = refl
+zero-holds (x ∷ xs) e zero = eqb-true x 0 (and-eq-true-iff (eqb x 0) (allZero xs) .0 e .0)
+zero-holds (x ∷ xs) e (suc i) = zero-holds xs (and-eq-true-iff (eqb x 0) (allZero xs) .0 e .1) i
+
+pub zero-passes : (xs : List ℕ) → ((i : ℕ) → getD xs i 0 ≡ 0) → allZero xs ≡ true
+zero-passes [] f = refl
+zero-passes (x ∷ xs) f = and-eq-true-iff (eqb x 0) (allZero xs) .1 (eq-eqb x 0 (f 0), zero-passes xs (λ i. f (suc i)))
+
+pub below-holds : (b : ℕ) (xs : List ℕ) → allBelow b xs ≡ true → Below b xs
+below-holds b [] e i h = absurd (omega arith)
+below-holds b (x ∷ xs) e zero h = ltb-true x b (and-eq-true-iff (ltb x b) (allBelow b xs) .0 e .0)
+below-holds b (x ∷ xs) e (suc i) h = below-holds b xs (and-eq-true-iff (ltb x b) (allBelow b xs) .0 e .1) i (omega arith)
+
+pub below-passes : (b : ℕ) (xs : List ℕ) → Below b xs → allBelow b xs ≡ true
+below-passes b [] f = refl
+below-passes b (x ∷ xs) f =
+    and-eq-true-iff (ltb x b) (allBelow b xs) .1 (lt-ltb x b (f 0 (omega arith)), below-passes b xs (below-tail b x xs f))
+
+-- P holds of each entry with its number, the first being s; z stands past the end
+module _ {A : Type 0} (z : A) (P : ℕ → A → Type 0) where
+  abbrev pub AllFrom : ℕ → List A → Type 0
+  AllFrom s xs = (j : ℕ) → j < length xs → P (s + j) (getD xs j z)
+
+  pub all-head : (s : ℕ) (x : A) (xs : List A) → AllFrom s (x ∷ xs) → P s x
+  all-head s x xs h = subst (λ (t : ℕ). P t x) (add-zero s) (h 0 (omega arith))
+
+  pub all-tail : (s : ℕ) (x : A) (xs : List A) → AllFrom s (x ∷ xs) → AllFrom (suc s) xs
+  all-tail s x xs h j l = subst (λ (t : ℕ). P t (getD xs j z)) (omega arith) (h (suc j) (omega arith))
+
+-- Q holds of every entry, also past the end: one entry more, and the entries of a map
+module _ {B : Type 0} (z : B) (Q : B → Type 0) (base : Q z) where
+  pub snoc-all : (xs : List B) → ((i : ℕ) → Q (getD xs i z)) → (y : B) → Q y → (i : ℕ) → Q (getD (xs ++ (y ∷ [])) i z)
+  snoc-all [] h y hy zero = hy
+  snoc-all [] h y hy (suc i) = base
+  snoc-all (x ∷ xs) h y hy zero = h 0
+  snoc-all (x ∷ xs) h y hy (suc i) = snoc-all xs (λ k. h (suc k)) y hy i
+
+  pub map-all : (f : ℕ → B) (ps : List ℕ) → ((i : ℕ) → i < length ps → Q (f (getD ps i 0))) → (i : ℕ) → Q (getD (map f ps) i z)
+  map-all f [] h i = base
+  map-all f (p ∷ ps) h zero = h 0 (omega arith)
+  map-all f (p ∷ ps) h (suc i) = map-all f ps (λ k l. h (suc k) (omega arith)) i
+
+-- functions that agree at every entry have the same map
+pub map-same : {B : Type 0} (f g : ℕ → B) (ps : List ℕ) → ((i : ℕ) → i < length ps → f (getD ps i 0) ≡ g (getD ps i 0)) → map f ps ≡ map g ps
+map-same f g [] h = refl
+map-same f g (p ∷ ps) h = ap₂ _∷_ (h 0 (omega arith)) (map-same f g ps (λ i l. h (suc i) (omega arith)))

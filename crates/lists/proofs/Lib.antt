@@ -1,2 +1,5 @@
 pub mod Parts
 pub mod Every
+pub mod Sums
+pub mod Counts
+pub mod Joined

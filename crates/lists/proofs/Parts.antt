@@ -1,10 +1,11 @@
--- Parts of lists, entry by entry. Assumes nothing.
+-- Parts of lists, entry by entry: read, stored and copied. Assumes nothing.
 use Prim.Native.Nat.{ℕ, zero, suc, _+_, _≤_, _<_}
-use mathlib.Core.List.{List, [], _∷_}
+use mathlib.Core.List.{List, [], _∷_, _++_}
 use mathlib.Core.Path.{_≡_, refl, sym, ap, _∙_}
+use native.Mathlib.Numerals.{add-one}
 use native.Mathlib.Omega.{arith}
-use lib.ListN.{length, getD, take, drop, length-take, length-drop}
-use lib.Seq.{getD-take, getD-drop}
+use lib.ListN.{length, getD, take, drop, set, replicate, length-append, length-take, length-drop}
+use lib.Seq.{sets, take-suc, drop-cons, set-at, append-snoc, length-take-le, getD-take, getD-drop}
 
 -- an entry of a part in its place
 pub part-at : (xs : List ℕ) (from count i : ℕ) → i < count → getD (take count (drop from xs)) i 0 ≡ getD xs (from + i) 0
@@ -29,3 +30,36 @@ four-from xs from h =
   where
     at : (i k : ℕ) → i < 4 → from + i ≡ k → getD (take 4 (drop from xs)) i 0 ≡ getD xs k 0
     at i k l e = part-at xs from 4 i l ∙ ap (λ (x : ℕ). getD xs x 0) e
+
+-- every entry of zeros, also past their end
+pub zeros-at : (n i : ℕ) → _≡_ {A = ℕ} (getD (replicate n 0) i 0) 0
+zeros-at zero i = refl
+zeros-at (suc n) zero = refl
+zeros-at (suc n) (suc i) = zeros-at n i
+
+-- two runs of stores after each other are one
+pub sets-append : (vs us l : List ℕ) (i j : ℕ) → j ≡ i + length vs → sets l i (vs ++ us) ≡ sets (sets l i vs) j us
+sets-append [] us l i j e =
+    let z : j ≡ i = omega arith in
+    rw z
+sets-append (a ∷ vs) us l i j e = sets-append vs us (set l i a) (suc i) j (omega arith)
+
+-- one store more of a list's front
+pub sets-turn : (vs l ws : List ℕ) (b i : ℕ) → i < length vs → ws ≡ sets l b (take i vs)
+    → set ws (b + i) (getD vs i 0) ≡ sets l b (take (i + 1) vs)
+sets-turn vs l ws b i h e =
+    let s : take (i + 1) vs ≡ take i vs ++ (getD vs i 0 ∷ []) = rw add-one (take-suc vs i 0 h) in
+    let n : b + i ≡ b + length (take i vs) = ap (λ (k : ℕ). b + k) (sym (length-take-le i vs (omega arith))) in
+    rw (e, s) (sym (sets-append (take i vs) (getD vs i 0 ∷ []) l b (b + i) n))
+
+-- a list copied over the front of another, one entry a turn
+pub copy-turn : (xs ys now : List ℕ) (i : ℕ) → i < length xs → i < length ys → now ≡ take i xs ++ drop i ys
+    → set now i (getD xs i 0) ≡ take (i + 1) xs ++ drop (i + 1) ys
+copy-turn xs ys now i hx hy e =
+    ap (λ (l : List ℕ). set l i (getD xs i 0)) (e ∙ ap (λ (l : List ℕ). take i xs ++ l) (drop-cons ys i 0 hy))
+    ∙ set-at (take i xs) (getD ys i 0) (drop (suc i) ys) (getD xs i 0) i (length-take-le i xs (omega arith))
+    ∙ sym (append-snoc (take i xs) (getD xs i 0) (drop (suc i) ys))
+    ∙ rw (add-one i, take-suc xs i 0 hx) refl
+
+pub copied-length : (xs ys : List ℕ) (i : ℕ) → i ≤ length xs → i ≤ length ys → length (take i xs ++ drop i ys) ≡ length ys
+copied-length xs ys i hx hy = omega (arith, length-append (take i xs) (drop i ys), length-take-le i xs hx, length-drop i ys)

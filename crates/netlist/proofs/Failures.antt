@@ -1,12 +1,14 @@
 -- The failures by their equations: an input's is 0, a gate's is the figure of its table, its pins' right values and failures, and its flip; no other list
 -- of that length meets them, and none passes u. Assumes nothing.
-use Prim.Native.Nat.{ℕ, zero, suc, _+_, _-_, _*_, _≤_, _<_}
+use Prim.Native.Nat.{ℕ, suc, _+_, _-_, _*_, _≤_, _<_}
 use mathlib.Core.Bool.{Bool, true, false, Bool·beq, cond}
 use mathlib.Core.List.{List, [], _∷_, _++_, map}
 use mathlib.Core.Path.{_≡_, refl, sym, ap, _∙_}
 use native.Mathlib.Nat.{le-refl, mul-le-mul-right}
 use native.Mathlib.Omega.{arith}
-use lib.ListN.{length, getD, replicate, length-replicate, getD-replicate, length-map}
+use lib.ListN.{length, getD, replicate, length-replicate, length-map}
+use Rattle.lists.proofs.Parts.{zeros-at}
+use Rattle.lists.proofs.Every.{map-all}
 use Rattle.rounding.specs.Rounding.{blend, toUnits}
 use Rattle.rounding.proofs.Laws.{at-most, blend-at-most}
 use Rattle.figure.specs.Figure.{difference, answer, inverted, errorPatterns, startValues, foldPins, gateStep, gateFailure, outputStep}
@@ -48,7 +50,7 @@ module _ (u d : ℕ) (net : Netlist) (below : PinsBelow net) (q : ℕ) where
 
   -- an input's failure is 0
   pub failure-input : (i : ℕ) → i < net .inputs → getD (failures u d net q) i 0 ≡ 0
-  failure-input i l = sym (failures-solve .start i l) ∙ getD-replicate (net .inputs) i 0 0 l
+  failure-input i l = sym (failures-solve .start i l) ∙ zeros-at (net .inputs) i
 
   -- a gate's failure comes from its pins' right values and failures, and its flip
   pub failure-gate : (j : ℕ) → j < length (net .gates)
@@ -69,7 +71,7 @@ module _ (u d : ℕ) (net : Netlist) (below : PinsBelow net) (q : ℕ) where
       fs
       (length-replicate (net .inputs) 0)
       looks
-      (record { size = size; start = λ i l. getD-replicate (net .inputs) i 0 0 l ∙ sym (zeros i l); steps = steps })
+      (record { size = size; start = λ i l. zeros-at (net .inputs) i ∙ sym (zeros i l); steps = steps })
       ∙ sym (grown u d net q)
 
 -- a chance of at most 1 is at most u units
@@ -98,31 +100,35 @@ unfolding startValues
 start-fold u table vs fs e =
     ap (λ (k : ℕ). foldPins u fs (map (difference u table vs) (errorPatterns k))) e ∙ fold-over u fs (difference u table vs)
 
-pub difference-at-most : (u table : ℕ) (vs es : List Bool) → difference u table vs es ≤ u
-unfolding difference
-difference-at-most u table vs es = go (Bool·beq (answer table (inverted vs es)) (answer table vs))
-  where
-    go : (b : Bool) → cond b 0 u ≤ u
-    go true = omega arith
-    go false = le-refl u
+-- a step 1 value is 0 or u
+pub start-at-most : (u : ℕ) (right : Bool) → cond right 0 u ≤ u
+start-at-most u true = omega arith
+start-at-most u false = le-refl u
 
-pins-all : {B : Type 0} (z : B) (Q : B → Type 0) → Q z → (xs : List B) → ((i : ℕ) → Q (getD xs i z)) → (ps : List ℕ) (i : ℕ)
-    → Q (getD (map (λ (p : ℕ). getD xs p z) ps) i z)
-pins-all z Q base xs h [] i = base
-pins-all z Q base xs h (p ∷ ps) zero = h p
-pins-all z Q base xs h (p ∷ ps) (suc i) = pins-all z Q base xs h ps i
+-- a gate's figure is at most u if its flip and the failures of its pins are
+pub figure-at-most : (u p table : ℕ) → 0 < u → p ≤ u → (vs : List Bool) (fs : List ℕ) → length vs ≡ length fs → ((i : ℕ) → getD fs i 0 ≤ u)
+    → gateFailure u table vs fs p ≤ u
+unfolding gateFailure gateStep difference
+figure-at-most u p table posu hp vs fs same hf =
+    let m = foldPins u fs (startValues u table vs) in
+    let fold : m ≡ foldOver u fs (difference u table vs) = start-fold u table vs fs same in
+    let small : foldOver u fs (difference u table vs) ≤ u
+    = fold-at-most u u posu fs hf _ (λ es. start-at-most u (Bool·beq (answer table (inverted vs es)) (answer table vs))) in
+    blend-at-most u m (u - m) p u posu hp (omega arith) (omega arith)
 
 pub gate-at-most : (u d : ℕ) → 0 < u → 0 < d → (vs : List Bool) (g : Gate) → g .chance ≤ d → (fs : List ℕ) → ((i : ℕ) → getD fs i 0 ≤ u)
     → failureStep u d vs g fs ≤ u
-unfolding gateFailure gateStep
 gate-at-most u d posu posd vs g hc fs hf =
-    let pf = pinFailures fs (g .pins) in
-    let m = foldPins u pf (startValues u (g .table) (pinValues vs (g .pins))) in
-    let same : m ≡ foldOver u pf (difference u (g .table) (pinValues vs (g .pins)))
-    = start-fold u (g .table) (pinValues vs (g .pins)) pf (length-map (g .pins) (λ (p : ℕ). getD vs p false) ∙ sym (length-map (g .pins) (λ (p : ℕ). getD fs p 0))) in
-    let small : foldOver u pf (difference u (g .table) (pinValues vs (g .pins))) ≤ u
-    = fold-at-most u u posu pf (pins-all 0 (λ (f : ℕ). f ≤ u) (omega arith) fs hf (g .pins)) _ (difference-at-most u (g .table) (pinValues vs (g .pins))) in
-    blend-at-most u m (u - m) (toUnits u d (g .chance)) u posu (units-at-most u d (g .chance) posd hc) (omega arith) (omega arith)
+    figure-at-most
+    u
+    (toUnits u d (g .chance))
+    (g .table)
+    posu
+    (units-at-most u d (g .chance) posd hc)
+    (pinValues vs (g .pins))
+    (pinFailures fs (g .pins))
+    (length-map (g .pins) (λ (p : ℕ). getD vs p false) ∙ sym (length-map (g .pins) (λ (p : ℕ). getD fs p 0)))
+    (map-all 0 (λ (f : ℕ). f ≤ u) (omega arith) (λ (p : ℕ). getD fs p 0) (g .pins) (λ i l. hf (getD (g .pins) i 0)))
 
 -- every failure is at most u
 pub failures-at-most : (u d : ℕ) → 0 < u → 0 < d → (net : Netlist) → WellFormed d net → (q s : ℕ) → getD (failures u d net q) s 0 ≤ u
@@ -136,14 +142,9 @@ failures-at-most u d posu posd net well q s =
     (omega arith)
     (net .gates)
     (replicate (net .inputs) 0)
-    (zeros (net .inputs))
+    (λ i. omega (arith, zeros-at (net .inputs) i))
     (λ j l fs h. gate-at-most u d posu posd (rightValues net q) (gateAt net j) (well .chances j l) fs h)
     s)
-  where
-    zeros : (n i : ℕ) → getD (replicate n 0) i 0 ≤ u
-    zeros zero i = omega arith
-    zeros (suc n) zero = omega arith
-    zeros (suc n) (suc i) = zeros n i
 
 -- and so is the reliability
 pub reliability-at-most : (u d : ℕ) → 0 < u → 0 < d → (net : Netlist) → WellFormed d net → (q : ℕ) → reliability u d net q ≤ u

@@ -8,16 +8,19 @@ use native.Mathlib.Nat.{add-zero, eq-or-lt-of-le, le-of-suc-le-suc}
 use native.Mathlib.Omega.{arith}
 use lib.ListN.{length, getD, length-append, List·getD-append}
 use lib.Seq.{getD-at, ext-getD}
+use Rattle.lists.proofs.Every.{AllFrom, all-tail, snoc-all}
 use Rattle.netlist.specs.Netlist.{Gate, noGate}
 
 -- two lists agree below b
 abbrev pub Agree : {B : Type 0} → B → ℕ → List B → List B → Type 0
 Agree z b xs ys = (i : ℕ) → i < b → getD xs i z ≡ getD ys i z
 
--- step j looks only at entries below n + j
+-- a step looks only at entries below its source: the first is n
+abbrev pub LooksBelow : {B : Type 0} → B → (Gate → List B → B) → ℕ → Gate → Type 0
+LooksBelow {B} z step t g = (xs ys : List B) → Agree z t xs ys → step g xs ≡ step g ys
+
 abbrev pub Looks : {B : Type 0} → B → (Gate → List B → B) → ℕ → List Gate → Type 0
-Looks {B} z step n gs =
-    (j : ℕ) → j < length gs → (xs ys : List B) → Agree z (n + j) xs ys → step (getD gs j noGate) xs ≡ step (getD gs j noGate) ys
+Looks z step n gs = AllFrom noGate (LooksBelow z step) n gs
 
 -- ys begins as xs, and has at each gate that gate's step on the whole of ys
 pub record Solves {B : Type 0} (z : B) (step : Gate → List B → B) (n : ℕ) (gs : List Gate) (xs ys : List B) : Type 0 where
@@ -39,9 +42,6 @@ module _ {B : Type 0} (z : B) (step : Gate → List B → B) where
   grow-keeps (g ∷ gs) xs i l =
       sym (List·getD-append xs (step g xs ∷ []) z i l) ∙ grow-keeps gs (xs ++ (step g xs ∷ [])) i (omega (arith, length-append xs (step g xs ∷ [])))
 
-  looks-tail : (n : ℕ) (g : Gate) (gs : List Gate) → Looks z step n (g ∷ gs) → Looks z step (suc n) gs
-  looks-tail n g gs h j l xs ys agree = h (suc j) (omega arith) xs ys (λ i k. agree i (omega arith))
-
   grow-steps : (n : ℕ) (gs : List Gate) (xs : List B) → length xs ≡ n → Looks z step n gs
       → (j : ℕ) → j < length gs → getD (grow gs xs) (n + j) z ≡ step (getD gs j noGate) (grow gs xs)
   grow-steps n [] xs e looks j l = absurd (omega arith)
@@ -56,7 +56,7 @@ module _ {B : Type 0} (z : B) (step : Gate → List B → B) where
       let longer = xs ++ (step g xs ∷ []) in
       let size : length longer ≡ suc n = omega (arith, length-append xs (step g xs ∷ [])) in
       let at : n + suc j ≡ suc n + j = omega arith in
-      ap (λ (i : ℕ). getD (grow gs longer) i z) at ∙ grow-steps (suc n) gs longer size (looks-tail n g gs looks) j (omega arith)
+      ap (λ (i : ℕ). getD (grow gs longer) i z) at ∙ grow-steps (suc n) gs longer size (all-tail noGate (LooksBelow z step) n g gs looks) j (omega arith)
 
   pub grow-solves : (n : ℕ) (gs : List Gate) (xs : List B) → length xs ≡ n → Looks z step n gs → Solves z step n gs xs (grow gs xs)
   grow-solves n gs xs e looks =
@@ -82,7 +82,7 @@ module _ {B : Type 0} (z : B) (step : Gate → List B → B) where
       longer
       ys
       size
-      (looks-tail n g gs looks)
+      (all-tail noGate (LooksBelow z step) n g gs looks)
       (record {
         size = omega (arith, s .size);
         start =
@@ -96,15 +96,9 @@ module _ {B : Type 0} (z : B) (step : Gate → List B → B) where
 
   -- a property that the start and each step have, every entry has
   module _ (Q : B → Type 0) (base : Q z) where
-    snoc-all : (xs : List B) → ((i : ℕ) → Q (getD xs i z)) → (y : B) → Q y → (i : ℕ) → Q (getD (xs ++ (y ∷ [])) i z)
-    snoc-all [] h y hy zero = hy
-    snoc-all [] h y hy (suc i) = base
-    snoc-all (x ∷ xs) h y hy zero = h 0
-    snoc-all (x ∷ xs) h y hy (suc i) = snoc-all xs (λ k. h (suc k)) y hy i
-
     pub grow-all : (gs : List Gate) (xs : List B) → ((i : ℕ) → Q (getD xs i z))
         → ((j : ℕ) → j < length gs → (ys : List B) → ((i : ℕ) → Q (getD ys i z)) → Q (step (getD gs j noGate) ys))
         → (i : ℕ) → Q (getD (grow gs xs) i z)
     grow-all [] xs h steps i = h i
     grow-all (g ∷ gs) xs h steps i =
-        grow-all gs (xs ++ (step g xs ∷ [])) (snoc-all xs h (step g xs) (steps 0 (omega arith) xs h)) (λ j l. steps (suc j) (omega arith)) i
+        grow-all gs (xs ++ (step g xs ∷ [])) (snoc-all z Q base xs h (step g xs) (steps 0 (omega arith) xs h)) (λ j l. steps (suc j) (omega arith)) i

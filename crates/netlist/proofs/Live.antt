@@ -3,33 +3,37 @@
 use Prim.Native.Nat.{ℕ, zero, suc, _+_, _≤_, _<_}
 use mathlib.Core.Bool.{cond}
 use mathlib.Core.List.{List, [], _∷_, _++_}
-use mathlib.Core.Path.{_≡_, refl, sym, ap, ap₂, subst, _∙_}
+use mathlib.Core.Path.{_≡_, refl, sym, ap, ap₂, _∙_}
 use mathlib.Core.Logic.{_⊎_, inl, inr, ⊎-elim}
-use native.Mathlib.Nat.{le-refl, add-zero, eq-zero-or-pos, eq-or-lt-of-le, le-of-suc-le-suc}
+use native.Mathlib.Nat.{le-refl, add-zero, zero-add, eq-zero-or-pos}
 use native.Mathlib.Omega.{arith}
 use lib.ListN.{length, getD, drop}
 use lib.Seq.{drop-cons}
 use Rattle.figure.specs.Figure.{bitOf}
 use Rattle.netlist.specs.Netlist.{Gate, Netlist, noGate, gateAt}
-use Rattle.lists.specs.Lists.{Below}
-use Rattle.netlist.specs.WellFormed.{PinsBelow}
-use Rattle.lists.specs.Lists.{count}
+use Rattle.lists.specs.Lists.{count, sumBelow, Below}
+use Rattle.lists.proofs.Counts.{count-append, count-below, below-count}
+use Rattle.lists.proofs.Every.{AllFrom, all-head, all-tail}
+use Rattle.lists.proofs.Sums.{sum-first, sum-same, sum-term, sum-some}
+use Rattle.netlist.specs.WellFormed.{pinsBelow, PinsBelow}
 use Rattle.netlist.specs.Live.{isLive, withGate, liveReadsFrom, liveReads, readers, liveAmong}
 use Rattle.netlist.specs.Live.{Live, output-reads, gate-reads, Depends, reads, reads-further}
-use Rattle.lists.specs.Lists.{sumBelow}
-use Rattle.netlist.proofs.Each.{AllFrom, all-head, all-tail, pinsBelow}
-use Rattle.netlist.proofs.Count.{count-append, count-below, below-count}
 
 -- what a gate with so many live readers adds: nothing if it is dead
 abbrev pub ifLive : ℕ → ℕ → ℕ
 ifLive r k = cond (isLive r) k 0
 
-pub count-with : (t s : ℕ) (ps rs : List ℕ) → count t (withGate s ps rs) ≡ ifLive (count s rs) (count t ps) + count t rs
-count-with t s ps rs = go (count s rs)
+-- whatever is counted of reads, a gate adds what its pins have if it is live
+pub reads-with : (size : List ℕ → ℕ) → ((xs ys : List ℕ) → size (xs ++ ys) ≡ size xs + size ys) → (s : ℕ) (ps rs : List ℕ)
+    → size (withGate s ps rs) ≡ ifLive (count s rs) (size ps) + size rs
+reads-with size adds s ps rs = go (count s rs)
   where
-    go : (c : ℕ) → count t (cond (isLive c) (ps ++ rs) rs) ≡ ifLive c (count t ps) + count t rs
-    go zero = omega arith
-    go (suc c) = count-append t ps rs
+    go : (c : ℕ) → size (cond (isLive c) (ps ++ rs) rs) ≡ ifLive c (size ps) + size rs
+    go zero = sym (zero-add (size rs))
+    go (suc c) = adds ps rs
+
+pub count-with : (t s : ℕ) (ps rs : List ℕ) → count t (withGate s ps rs) ≡ ifLive (count s rs) (count t ps) + count t rs
+count-with t = reads-with (count t) (count-append t)
 
 -- a gate adds no read of itself or a later gate
 pub count-later : (t s : ℕ) (ps rs : List ℕ) → Below s ps → s ≤ t → count t (withGate s ps rs) ≡ count t rs
@@ -68,16 +72,8 @@ pub reads-from : (net : Netlist) (j : ℕ) → j < length (net .gates)
     ≡ withGate (net .inputs + j) (gateAt net j .pins) (liveReadsFrom (net .outputs) (suc (net .inputs + j)) (drop (suc j) (net .gates)))
 reads-from net j l = ap (liveReadsFrom (net .outputs) (net .inputs + j)) (drop-cons (net .gates) j noGate l)
 
-pub sum-first : (k : ℕ) (F : ℕ → ℕ) → sumBelow (suc k) F ≡ F 0 + sumBelow k (λ j. F (suc j))
-sum-first zero F = omega arith
-sum-first (suc k) F = omega (arith, sum-first k F)
-
-pub sum-same : (k : ℕ) (F H : ℕ → ℕ) → ((j : ℕ) → j < k → F j ≡ H j) → sumBelow k F ≡ sumBelow k H
-sum-same zero F H h = refl
-sum-same (suc k) F H h = ap₂ _+_ (sum-same k F H (λ j l. h j (omega arith))) (h k (omega arith))
-
 -- the reads by the pins of live gates, added up
-reads-sum : (t : ℕ) (outputs : List ℕ) (s : ℕ) (gs : List Gate) → AllFrom pinsBelow s gs
+reads-sum : (t : ℕ) (outputs : List ℕ) (s : ℕ) (gs : List Gate) → AllFrom noGate pinsBelow s gs
     → count t (liveReadsFrom outputs s gs)
     ≡ count t outputs + sumBelow (length gs) (λ j. ifLive (count (s + j) (liveReadsFrom outputs s gs)) (count t (getD gs j noGate .pins)))
 reads-sum t outputs s [] below = sym (add-zero (count t outputs))
@@ -86,36 +82,20 @@ reads-sum t outputs s (g ∷ gs) below =
     let all = withGate s (g .pins) later in
     let F : ℕ → ℕ = λ j. ifLive (count (s + j) all) (count t (getD (g ∷ gs) j noGate .pins)) in
     let H : ℕ → ℕ = λ j. ifLive (count (suc s + j) later) (count t (getD gs j noGate .pins)) in
-    let pins = all-head pinsBelow s g gs below in
+    let pins = all-head noGate pinsBelow s g gs below in
     let first : F 0 ≡ ifLive (count s later) (count t (g .pins))
     = ap (λ (k : ℕ). ifLive (count k all) (count t (g .pins))) (add-zero s)
     ∙ ap (λ (k : ℕ). ifLive k (count t (g .pins))) (count-later s s (g .pins) later pins (le-refl s)) in
     let others : sumBelow (length gs) (λ j. F (suc j)) ≡ sumBelow (length gs) H
-    = sum-same (length gs) _ _ (λ j l.
+    = sum-same _ _ (length gs) (λ j l.
     ap (λ (k : ℕ). ifLive (count k all) (count t (getD gs j noGate .pins))) (omega arith)
     ∙ ap (λ (k : ℕ). ifLive k (count t (getD gs j noGate .pins))) (count-later (suc s + j) s (g .pins) later pins (omega arith))) in
     omega (
       arith,
       count-with t s (g .pins) later,
-      reads-sum t outputs (suc s) gs (all-tail pinsBelow s g gs below),
-      sum-first (length gs) F,
+      reads-sum t outputs (suc s) gs (all-tail noGate pinsBelow s g gs below),
+      sum-first F (length gs),
     )
-
-sum-term : (k : ℕ) (F : ℕ → ℕ) (j : ℕ) → j < k → F j ≤ sumBelow k F
-sum-term zero F j l = absurd (omega arith)
-sum-term (suc k) F j l =
-    ⊎-elim
-    (λ q. subst (λ (i : ℕ). F i ≤ sumBelow (suc k) F) (sym q) (omega arith))
-    (λ m. omega (arith, sum-term k F j m))
-    (eq-or-lt-of-le (le-of-suc-le-suc l))
-
-sum-some : (k : ℕ) (F : ℕ → ℕ) → 0 < sumBelow k F → (j : ℕ) × (j < k) × (0 < F j)
-sum-some zero F h = absurd (omega arith)
-sum-some (suc k) F h =
-    ⊎-elim
-    (λ z. let w = sum-some k F (omega arith) in (w .0, omega (arith, w .1), w .2))
-    (λ p. (k, omega arith, p))
-    (eq-zero-or-pos (F k))
 
 if-live : (r k : ℕ) → 0 < ifLive r k → (0 < r) × (0 < k)
 if-live zero k h = absurd (omega arith)
@@ -138,7 +118,8 @@ module _ (net : Netlist) (below : PinsBelow net) where
   live-readers {s} (output-reads h) = omega (arith, readers-are s)
   live-readers {s} (gate-reads j l live h) =
       let F : ℕ → ℕ = λ j. ifLive (readers net (net .inputs + j)) (count s (gateAt net j .pins)) in
-      omega (arith, readers-are s, sum-term (length (net .gates)) F j l, live-if (readers net (net .inputs + j)) (count s (gateAt net j .pins)) (live-readers live))
+      let here : F j ≡ count s (gateAt net j .pins) = live-if (readers net (net .inputs + j)) _ (live-readers live) in
+      omega (arith, readers-are s, sum-term F (length (net .gates)) j l)
 
   some-reader : (s : ℕ) → 0 < readers net s
       → (0 < count s (net .outputs))
@@ -147,7 +128,7 @@ module _ (net : Netlist) (below : PinsBelow net) where
       let F : ℕ → ℕ = λ j. ifLive (readers net (net .inputs + j)) (count s (gateAt net j .pins)) in
       ⊎-elim
       (λ z.
-      let w = sum-some (length (net .gates)) F (omega (arith, readers-are s)) in
+      let w = sum-some F (length (net .gates)) (omega (arith, readers-are s)) in
       let both = if-live (readers net (net .inputs + w .0)) (count s (gateAt net (w .0) .pins)) (w .2) in
       inr (w .0, w .1, both .0, both .1))
       inl

@@ -3,15 +3,15 @@
 use Prim.Native.Nat.{ℕ, zero, suc, _+_, _/_, _^_, _<_}
 use mathlib.Core.Bool.{Bool, false}
 use mathlib.Core.List.{List, [], _∷_, _++_, map}
-use mathlib.Core.Path.{_≡_, refl, sym, ap, ap₂, _∙_}
+use mathlib.Core.Path.{_≡_, refl, sym, ap, _∙_}
 use native.Mathlib.Nat.{pow-succ', div-one, div-div-eq-div-mul}
 use native.Mathlib.Omega.{arith}
 use lib.ListN.{length, getD}
 use Rattle.figure.specs.Figure.{isOdd, answer}
 use Rattle.netlist.specs.Netlist.{Gate, Netlist, gateAt, inputValues, pinValues, values, rightValues}
 use Rattle.lists.specs.Lists.{Below}
+use Rattle.lists.proofs.Every.{map-same}
 use Rattle.netlist.specs.WellFormed.{PinsBelow}
-use Rattle.netlist.proofs.Count.{below-tail}
 use Rattle.netlist.proofs.Grow.{Looks, Solves, grow, grow-solves, grow-unique}
 
 pub inputs-length : (n q : ℕ) → length (inputValues n q) ≡ n
@@ -27,9 +27,7 @@ input-value (suc n) q (suc i) l =
 -- what pins below b read is settled below b
 pub pins-agree : {B : Type 0} (z : B) (b : ℕ) (xs ys : List B) (ps : List ℕ) → Below b ps
     → ((i : ℕ) → i < b → getD xs i z ≡ getD ys i z) → map (λ (p : ℕ). getD xs p z) ps ≡ map (λ (p : ℕ). getD ys p z) ps
-pins-agree z b xs ys [] below agree = refl
-pins-agree z b xs ys (p ∷ ps) below agree =
-    ap₂ _∷_ (agree p (below 0 (omega arith))) (pins-agree z b xs ys ps (below-tail b p ps below) agree)
+pins-agree z b xs ys ps below agree = map-same _ _ ps (λ i l. agree (getD ps i 0) (below i l))
 
 -- a gate's right value from a list of values
 abbrev pub rightStep : Gate → List Bool → Bool

@@ -1,5 +1,5 @@
 -- The weighted average of document 01, exact and in units: weights has entry q for pattern q. Chances are whole numbers of 1 / d.
-use Prim.Native.Nat.{ℕ, zero, suc, _+_, _*_, _^_}
+use Prim.Native.Nat.{ℕ, _*_, _^_}
 use mathlib.Core.List.{List}
 use lib.ListN.{getD}
 use Rattle.rounding.specs.Rounding.{roundDiv}

@@ -1,4 +1,4 @@
--- The exact sum and the exact average of document 01, as whole numbers with the denominators multiplied out. Chances are whole numbers of 1 / d.
+-- The exact sum of document 01, a whole number with the denominators multiplied out. Chances are whole numbers of 1 / d.
 use Prim.Native.Nat.{ℕ, zero, suc, _+_, _-_, _*_}
 use mathlib.Core.Bool.{Bool, true, false, cond, _&&_, Bool·beq}
 use mathlib.Core.List.{List, [], _∷_}
@@ -11,9 +11,9 @@ sumOverFlips zero F = F []
 sumOverFlips (suc k) F = sumOverFlips k (λ flips. F (false ∷ flips)) + sumOverFlips k (λ flips. F (true ∷ flips))
 
 -- a flip pattern's chance, times d for each gate: the product over ALL gates of the chance if it flips, else 1 less that chance
-abbrev pub weight : ℕ → List Gate → List Bool → ℕ
-weight d [] flips = 1
-weight d (g ∷ gs) flips = cond (firstFlip flips) (g .chance) (d - g .chance) * weight d gs (otherFlips flips)
+abbrev pub patternChance : ℕ → List Gate → List Bool → ℕ
+patternChance d [] flips = 1
+patternChance d (g ∷ gs) flips = cond (firstFlip flips) (g .chance) (d - g .chance) * patternChance d gs (otherFlips flips)
 
 -- whether every output has the same value in both lists of values
 abbrev pub outputsAgree : List ℕ → List Bool → List Bool → Bool
@@ -26,5 +26,5 @@ exactSum d net q =
     sumOverFlips (length (net .gates))
     (λ flips.
     cond (outputsAgree (net .outputs) (values (net .gates) flips (inputValues (net .inputs) q)) (rightValues net q))
-    (weight d (net .gates) flips)
+    (patternChance d (net .gates) flips)
     0)

@@ -4,4 +4,3 @@ pub mod Exact
 pub mod Figures
 pub mod Live
 pub mod Average
-pub mod Sheets

@@ -4,7 +4,6 @@ use Prim.Native.Nat.{ℕ, zero, suc, _+_, _≤_, _<_}
 use mathlib.Core.Bool.{Bool, true, false, cond}
 use mathlib.Core.List.{List, [], _∷_, _++_}
 use lib.ListN.{length}
-use lib.Dec.{eqb, leb}
 use Rattle.lists.specs.Lists.{count}
 use Rattle.figure.specs.Figure.{bitOf}
 use Rattle.netlist.specs.Netlist.{Gate, Netlist, gateAt}
@@ -42,15 +41,6 @@ liveGates net = liveAmong (liveReads net) (net .inputs) (length (net .gates))
 -- refusal 9 does not apply: no gate has two live readers
 unfoldable pub SingleReaders : Netlist → Type 0
 SingleReaders net = (j : ℕ) → j < length (net .gates) → readers net (net .inputs + j) ≤ 1
-
--- the lowest of k gates, the first of which is source s, that rs reads twice or more; k if there is none
-abbrev pub firstSharedFrom : List ℕ → ℕ → ℕ → ℕ
-firstSharedFrom rs s zero = 0
-firstSharedFrom rs s (suc k) = cond (leb 2 (count s rs)) 0 (suc (firstSharedFrom rs (suc s) k))
-
--- the place of refusal 9: the lowest gate with two live readers; the number of gates if there is none
-unfoldable pub firstShared : Netlist → ℕ
-firstShared net = firstSharedFrom (liveReads net) (net .inputs) (length (net .gates))
 
 -- live, as document 01 has it: read by an output, or by a gate that is live itself
 pub data Live (net : Netlist) : ℕ → Type 0 where

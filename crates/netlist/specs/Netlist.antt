@@ -1,6 +1,6 @@
 -- The netlist as the book of document 01 holds it: what the exact sum and the error bound speak of.
 use Prim.Native.Nat.{ℕ, zero, suc, _/_}
-use mathlib.Core.Bool.{Bool, true, false}
+use mathlib.Core.Bool.{Bool, false}
 use mathlib.Core.List.{List, [], _∷_, _++_, map}
 use lib.ListN.{getD}
 use Rattle.figure.specs.Figure.{isOdd, invertIf, answer}
