@@ -1,7 +1,3 @@
-pub mod Judged
-pub mod Sets
+pub mod Passed
 pub mod Trailer
-pub mod Gates
 pub mod Middle
-pub mod Joined
-pub mod Sound
