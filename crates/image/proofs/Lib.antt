@@ -1,3 +1,4 @@
 pub mod Passed
 pub mod Trailer
 pub mod Middle
+pub mod Numbers
