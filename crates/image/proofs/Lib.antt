@@ -1,3 +1,6 @@
 pub mod Passed
-pub mod Trailer
 pub mod Middle
+pub mod Right
+pub mod Words
+pub mod Sound
+pub mod Netlist
