@@ -1,17 +1,15 @@
 -- The book of document 01, "The list and the book": what is current and exact after a list of calls. It is fed the area's length and the calls' arguments,
 -- and neither a word of the area nor an answer.
-use Prim.Native.Nat.{ℕ, zero, suc}
-use mathlib.Core.List.{List, [], _∷_}
-use lib.ListN.{length, take, set}
+use Prim.Native.Nat.{ℕ}
+use mathlib.Core.List.{List}
+use lib.ListN.{length, set}
 use Rattle.chance.specs.Flip.{flipChance}
 use Rattle.netlist.specs.Netlist.{Gate, Netlist, gateAt}
 use Rattle.work.specs.Work.{invertBit}
 use Rattle.refusal.specs.declared.Judgement.{Judgement}
 use Rattle.refusal.specs.declared.Judgement.the-variants.{Fine, Refused}
 use Rattle.refusal.specs.Judgement.{otherwise}
-use Rattle.lists.specs.Lists.{joined}
-use Rattle.image.specs.Image.{imageInputs, imageGates, imageOutputs, middle, recordCount, recordKind, recordTable, recordPins}
-use Rattle.image.specs.Loading.{recordChance, outputWord}
+use Rattle.image.specs.Netlist.{imageNet}
 use Rattle.calls.specs.Judged.{named, flipJudgement, weightsJudgement, openJudgement}
 use Rattle.calls.specs.Calls.{Call, open-image, toggle-input, set-flip, read-netlist, read-gate, take-average}
 
@@ -21,28 +19,6 @@ pub record Book : Type 0 where
   pub pattern : ℕ
 
 -- ---- what an image enters: its netlist, kinds and chances, and pattern 0
-
-abbrev pub recordGate : List ℕ → ℕ → Gate
-recordGate m j =
-    record {
-      pins = take (recordCount m j) (recordPins m j);
-      table = recordTable m j;
-      kind = recordKind m j;
-      chance = recordChance m j;
-    }
-
--- the k gates from j on
-abbrev pub recordGates : List ℕ → ℕ → ℕ → List Gate
-recordGates m j zero = []
-recordGates m j (suc k) = recordGate m j ∷ recordGates m (suc j) k
-
-unfoldable pub imageNet : List ℕ → Netlist
-imageNet bs =
-    record {
-      inputs = imageInputs bs;
-      gates = recordGates (middle bs) 0 (imageGates bs);
-      outputs = joined (outputWord (middle bs) (imageGates bs)) (imageOutputs bs);
-    }
 
 abbrev pub imageBook : List ℕ → Book
 imageBook bs = record { net = imageNet bs; pattern = 0 }
