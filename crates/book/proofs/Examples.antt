@@ -18,7 +18,8 @@ use Rattle.image.specs.Loading.{recordChance, middleWords, imageWords}
 use Rattle.calls.specs.Judged.{sharedJudgement, openJudgement, weightsJudgement}
 use Rattle.calls.specs.Calls.{Call, open-image, toggle-input, set-flip, read-netlist, read-gate, take-average, openWords}
 use Rattle.calls.specs.Sheets.{printedImage}
-use Rattle.book.specs.Book.{Book, imageNet, imageBook, withFlip, bookJudgement, bookStep}
+use Rattle.image.specs.Netlist.{imageNet}
+use Rattle.book.specs.Book.{Book, imageBook, withFlip, bookJudgement, bookStep}
 use Rattle.book.specs.Statement.{Kept}
 use Rattle.book.proofs.List.{demand3}
 

@@ -7,65 +7,27 @@ use borrow.Author.Tests.{eqb-true}
 use lib.ListN.{length, drop}
 use Rattle.netlist.specs.Live.{liveGates, firstShared, SingleReaders}
 use Rattle.netlist.proofs.Shared.{none-single}
-use Rattle.area.specs.Layout.{inputs, gates, outputs, pattern, gateIndex, pinCount, table, pins, flipIndex, needed}
+use Rattle.area.specs.Layout.{gates, flipIndex, needed}
 use Rattle.work.specs.Work.{workAll}
 use Rattle.work.proofs.Frame.{same-gates, same-work-all, work-all-other}
 use Rattle.work.proofs.Sound.{sound-work-all}
-use Rattle.area.specs.Net.{gateOf, gatesFrom, netOf}
+use Rattle.area.specs.Net.{netOf}
 use Rattle.area.proofs.Net.{gate-count, same-live-gates, same-single-readers}
 use Rattle.refusal.specs.declared.Judgement.the-variants.{Fine}
-use Rattle.image.specs.Image.{imageInputs, imageGates, imageOutputs, middle, recordCount, recordTable, recordPins}
+use Rattle.image.specs.Image.{imageGates, imageOutputs}
 use Rattle.image.specs.Refusals.{imageRefusal}
-use Rattle.image.specs.Loading.{middleWords, imageWords, imageKinds, imageChances}
+use Rattle.image.specs.Loading.{imageWords, imageKinds, imageChances}
+use Rattle.image.specs.Netlist.{imageNet}
 use Rattle.refusal.proofs.Laws.{unless-fine, otherwise-fine}
-use Rattle.image.proofs.Sound.{word-at, pins-at, gate-stands, outputs-stand, loaded-sound, length-kinds, length-chances, kind-at, chance-at, chances-fit, flips-at}
+use Rattle.image.proofs.Words.{head-gates, head-pattern}
+use Rattle.image.proofs.Sound.{loaded-sound, length-kinds, length-chances, chances-fit, flips-at}
+use Rattle.image.proofs.Netlist.{image-net, plain-net}
 use Rattle.calls.specs.Judged.{sharedJudgement, openJudgement}
 use Rattle.calls.specs.Calls.{openWords, openLive}
 use Rattle.fresh.proofs.WorkAll.{work-all-fresh}
 use Rattle.fresh.proofs.Calls.{frame-net}
-use Rattle.book.specs.Book.{recordGate, recordGates, imageNet, imageBook}
+use Rattle.book.specs.Book.{imageBook}
 use Rattle.book.proofs.Agree.{Agree}
-
-module _ (bs rest : List ℕ) where
-  gate-held : (j : ℕ) → j < imageGates bs → gateOf (imageWords bs ++ rest) (imageKinds bs) (imageChances bs) j ≡ recordGate (middle bs) j
-  gate-held j l =
-      let ws = imageWords bs ++ rest in
-      let m = middle bs in
-      let d = gate-stands bs rest j l in
-      let n = imageInputs bs in
-      let count : pinCount ws j ≡ recordCount m j = word-at ws m (d .0) n j (d .1) (gateIndex j) 0 (omega arith) in
-      let bits : table ws j ≡ recordTable m j = word-at ws m (d .0) n j (d .1) (gateIndex j + 1) 1 refl in
-      let four : pins ws j ≡ recordPins m j = pins-at ws m (d .0) n j (d .1) in
-      rw (count, bits, four, kind-at bs j l, chance-at bs j l)
-
-  gates-held : (j k : ℕ) → j + k ≤ imageGates bs → gatesFrom (imageWords bs ++ rest) (imageKinds bs) (imageChances bs) j k ≡ recordGates (middle bs) j k
-  gates-held j zero l = refl
-  gates-held j (suc k) l = ap₂ _∷_ (gate-held j (omega arith)) (gates-held (suc j) k (omega arith))
-
-  -- the counts and the pattern stand in the head
-  pub head-inputs : inputs (imageWords bs ++ rest) ≡ imageInputs bs
-  unfolding imageWords middleWords
-  head-inputs = refl
-
-  pub head-gates : gates (imageWords bs ++ rest) ≡ imageGates bs
-  unfolding imageWords middleWords
-  head-gates = refl
-
-  pub head-outputs : outputs (imageWords bs ++ rest) ≡ imageOutputs bs
-  unfolding imageWords middleWords
-  head-outputs = refl
-
-  pub head-pattern : pattern (imageWords bs ++ rest) ≡ 0
-  unfolding imageWords middleWords
-  head-pattern = refl
-
-  -- the words of an image hold its netlist, whatever follows them
-  pub image-net : netOf (imageWords bs ++ rest) (imageKinds bs) (imageChances bs) ≡ imageNet bs
-  unfolding imageNet
-  image-net = rw (outputs-stand bs rest, head-inputs, head-gates, gates-held 0 (imageGates bs) (omega arith))
-
-plain-net : (bs : List ℕ) → netOf (imageWords bs) (imageKinds bs) (imageChances bs) ≡ imageNet bs
-plain-net bs = subst (λ (ws : List ℕ). netOf ws (imageKinds bs) (imageChances bs) ≡ imageNet bs) (append-nil (imageWords bs)) (image-net bs [])
 
 -- the number that opening answers is L of the book
 pub open-live : (bs : List ℕ) → openLive bs ≡ liveGates (imageNet bs)

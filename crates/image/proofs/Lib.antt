@@ -1,4 +1,7 @@
 pub mod Passed
-pub mod Trailer
 pub mod Middle
 pub mod Numbers
+pub mod Right
+pub mod Words
+pub mod Sound
+pub mod Netlist

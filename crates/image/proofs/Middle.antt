@@ -1,17 +1,35 @@
--- The middle: where its gates' and outputs' words are stored, and all of them together. Assumes nothing.
-use Prim.Native.Nat.{ℕ, _+_, _*_, _≤_}
+-- The middle of an image: which part it is, and the words that are stored of it. Assumes nothing.
+use Prim.Native.Nat.{ℕ, _+_, _-_, _*_, _≤_}
 use mathlib.Core.Path.{_≡_, refl, sym, ap, _∙_}
 use mathlib.Core.List.{List, [], _∷_, _++_}
 use native.Mathlib.Omega.{arith}
-use lib.ListN.{length, getD, drop, length-append}
-use lib.Seq.{sets, sets-eq}
+use lib.ListN.{length, getD, take, drop, length-append, length-drop}
+use lib.Seq.{sets, sets-eq, length-take-le}
 use Rattle.chance.specs.Flip.{flipUnits}
 use Rattle.area.specs.Layout.{headWords, gateWords, gateIndex, outputsIndex, needed}
 use Rattle.lists.specs.Lists.{joined}
 use Rattle.lists.proofs.Parts.{sets-append}
 use Rattle.lists.proofs.Joined.{length-joined, length-listed}
-use Rattle.image.specs.Image.{imageInputs, imageGates, imageOutputs, middle, recordCount, recordKind, recordTable, recordPins, recordField, outputAt}
+use Rattle.image.specs.Image.{middleBytes, trailerAt, imageInputs, imageGates, imageOutputs, imageBack, middle}
+use Rattle.image.specs.Image.{recordCount, recordKind, recordTable, recordPins, recordField, outputAt}
+use Rattle.image.specs.Refusals.{TrailerRight}
 use Rattle.image.specs.Loading.{recordUnits, newHead, recordWords, outputWord, middleWords, imageWords}
+
+-- the part that the code hands on is the middle, and it has every record and output word
+pub part-middle : (bs : List ℕ) (b : ℕ) → TrailerRight bs → b ≡ imageBack bs
+    → take (trailerAt bs - (trailerAt bs - b)) (drop (trailerAt bs - b) bs) ≡ middle bs
+unfolding middle
+part-middle bs b t e =
+    let inside : imageBack bs ≤ trailerAt bs = t .inside in
+    let back : trailerAt bs - (trailerAt bs - b) ≡ imageBack bs = omega arith in
+    ap (λ (i : ℕ). take i (drop (trailerAt bs - b) bs)) back ∙ ap (λ (i : ℕ). take (imageBack bs) (drop (trailerAt bs - i) bs)) e
+
+pub length-of-middle : (bs : List ℕ) → TrailerRight bs → length (middle bs) ≡ middleBytes (imageGates bs) (imageOutputs bs)
+unfolding middle
+length-of-middle bs t =
+    let inside : imageBack bs ≤ trailerAt bs = t .inside in
+    let enough : imageBack bs ≤ length (drop (trailerAt bs - imageBack bs) bs) = omega (arith, length-drop (trailerAt bs - imageBack bs) bs) in
+    length-take-le (imageBack bs) (drop (trailerAt bs - imageBack bs) bs) enough ∙ t .back
 
 module _ (m : List ℕ) where
   pub length-gates : (j : ℕ) → length (joined (recordWords m) j) ≡ gateWords * j

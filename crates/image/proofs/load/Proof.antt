@@ -9,7 +9,7 @@ use Rattle.area.specs.Layout.{needed}
 use Rattle.refusal.proofs.Laws.{never-both, otherwise-first, otherwise-second}
 use Rattle.image.specs.Image.{imageGates, imageOutputs}
 use Rattle.image.specs.Refusals.{trailerRefusal, imageRefusal}
-use Rattle.image.proofs.Trailer.{trailer-right}
+use Rattle.image.proofs.Right.{trailer-right}
 use Rattle.image.proofs.Middle.{stored-front}
 use borrow.Author.Needs.{needs}
 use Rattle.image.proofs.load.Statement.{statement}

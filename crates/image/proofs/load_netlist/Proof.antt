@@ -4,7 +4,7 @@ use native.Mathlib.Omega.{arith}
 use denote.Ref.{now}
 use borrow.Author.Needs.{needs}
 use Rattle.image.specs.Loading.{imageWords}
-use Rattle.image.proofs.Trailer.{part-middle, length-of-middle}
+use Rattle.image.proofs.Middle.{part-middle, length-of-middle}
 use borrow.Author.Needs.{needs}
 use Rattle.image.proofs.load_netlist.Statement.{statement}
 use Rattle.image.proofs.load_netlist.Tie as tie
