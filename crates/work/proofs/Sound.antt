@@ -28,7 +28,7 @@ use Rattle.work.proofs.Pattern.{invert-fits}
 
 -- ---- areas of one frame: netlist and reserved words are the same, the figures are to be shown
 
-net-same : (ws vs : List ℕ) → NetSound ws → SameFrame ws vs → NetSound vs
+pub net-same : (ws vs : List ℕ) → NetSound ws → SameFrame ws vs → NetSound vs
 net-same ws vs net same =
     let n = same-inputs ws vs same in
     let g = same-gates ws vs same in
