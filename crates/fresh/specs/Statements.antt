@@ -8,7 +8,7 @@ use mathlib.Core.Path.{_≡_}
 use lib.ListN.{getD}
 use Rattle.rounding.specs.Rounding.{unitsInOne}
 use Rattle.figure.specs.Figure.{rightOf, failureOf}
-use Rattle.netlist.specs.Netlist.{rightValues}
+use Rattle.netlist.specs.Netlist.{Netlist, rightValues}
 use Rattle.netlist.specs.Figures.{failures, reliability}
 use Rattle.netlist.specs.Live.{Depends}
 use Rattle.area.specs.Layout.{gateWords, inputs, gates, pattern, reliabilityWord, gateIndex, figure}
@@ -19,15 +19,19 @@ use Rattle.fresh.specs.Fresh.{Fresh, Converted}
 
 -- ---- the figures held are the netlist's
 
--- each gate's right value and failure, and word 4, are the netlist's figures at the pattern held; chances are whole numbers of 1 / d
-pub record FiguresHeld (d : ℕ) (ws kinds chances : List ℕ) : Type 0 where
-  pub right : (j : ℕ) → j < gates ws → rightOf (figure ws j) ≡ getD (rightValues (netOf ws kinds chances) (pattern ws)) (inputs ws + j) false
-  pub failure : (j : ℕ) → j < gates ws
-      → failureOf (figure ws j) ≡ getD (failures unitsInOne d (netOf ws kinds chances) (pattern ws)) (inputs ws + j) 0
-  pub product : reliabilityWord ws ≡ reliability unitsInOne d (netOf ws kinds chances) (pattern ws)
+-- each gate's right value and failure, and word 4, are the netlist's figures for pattern q; chances are whole numbers of 1 / d
+pub record FiguresHeld (d : ℕ) (net : Netlist) (q : ℕ) (ws : List ℕ) : Type 0 where
+  pub right : (j : ℕ) → j < gates ws → rightOf (figure ws j) ≡ getD (rightValues net q) (inputs ws + j) false
+  pub failure : (j : ℕ) → j < gates ws → failureOf (figure ws j) ≡ getD (failures unitsInOne d net q) (inputs ws + j) 0
+  pub product : reliabilityWord ws ≡ reliability unitsInOne d net q
 
 abbrev pub FreshHoldsNetlist : Type 0
-FreshHoldsNetlist = (d : ℕ) (ws kinds chances : List ℕ) → Sound ws → Fresh ws → Converted d ws chances → FiguresHeld d ws kinds chances
+FreshHoldsNetlist =
+    (d : ℕ) (ws kinds chances : List ℕ)
+    → Sound ws
+    → Fresh ws
+    → Converted d ws chances
+    → FiguresHeld d (netOf ws kinds chances) (pattern ws) ws
 
 -- ---- a call works out exactly the gates that depend on what it changes
 
