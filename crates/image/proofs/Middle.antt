@@ -7,13 +7,12 @@ use lib.ListN.{length, getD, take, drop, length-append, length-drop}
 use lib.Seq.{sets, sets-eq, length-take-le}
 use Rattle.chance.specs.Flip.{flipUnits}
 use Rattle.area.specs.Layout.{headWords, gateWords, gateIndex, outputsIndex, needed}
-use Rattle.lists.specs.Lists.{joined}
 use Rattle.lists.proofs.Parts.{sets-append}
 use Rattle.lists.proofs.Joined.{length-joined, length-listed}
 use Rattle.image.specs.Image.{middleBytes, trailerAt, imageInputs, imageGates, imageOutputs, imageBack, middle}
 use Rattle.image.specs.Image.{recordCount, recordKind, recordTable, recordPins, recordField, outputAt}
 use Rattle.image.specs.Refusals.{TrailerRight}
-use Rattle.image.specs.Loading.{recordUnits, newHead, recordWords, outputWord, middleWords, imageWords}
+use Rattle.image.specs.Loading.{recordUnits, newHead, recordWords, gateList, outputList, middleWords, imageWords, imageOver}
 
 -- the part that the code hands on is the middle, and it has every record and output word
 pub part-middle : (bs : List ℕ) (b : ℕ) → TrailerRight bs → b ≡ imageBack bs
@@ -32,32 +31,32 @@ length-of-middle bs t =
     length-take-le (imageBack bs) (drop (trailerAt bs - imageBack bs) bs) enough ∙ t .back
 
 module _ (m : List ℕ) where
-  pub length-gates : (j : ℕ) → length (joined (recordWords m) j) ≡ gateWords * j
+  pub length-gates : (j : ℕ) → length (gateList m j) ≡ gateWords * j
   length-gates j = length-joined (recordWords m) gateWords (λ i. refl) j
 
-  pub gate-place : (j : ℕ) → gateIndex j ≡ headWords + length (joined (recordWords m) j)
+  pub gate-place : (j : ℕ) → gateIndex j ≡ headWords + length (gateList m j)
   gate-place j = ap (λ (x : ℕ). headWords + x) (sym (length-gates j))
 
-  pub length-outputs : (g k : ℕ) → length (joined (outputWord m g) k) ≡ k
+  pub length-outputs : (g k : ℕ) → length (outputList m g k) ≡ k
   length-outputs g k = length-listed (outputAt m g) k
 
-  pub output-place : (g k : ℕ) → outputsIndex g + k ≡ outputsIndex g + length (joined (outputWord m g) k)
+  pub output-place : (g k : ℕ) → outputsIndex g + k ≡ outputsIndex g + length (outputList m g k)
   output-place g k = ap (λ (x : ℕ). outputsIndex g + x) (sym (length-outputs g k))
 
   pub length-middle : (n g k : ℕ) → length (middleWords m n g k) ≡ needed g k
   unfolding middleWords
   length-middle n g k =
-      length-append (newHead n g k) (joined (recordWords m) g ++ joined (outputWord m g) k)
-      ∙ ap (λ (x : ℕ). headWords + x) (length-append (joined (recordWords m) g) (joined (outputWord m g) k))
+      length-append (newHead n g k) (gateList m g ++ outputList m g k)
+      ∙ ap (λ (x : ℕ). headWords + x) (length-append (gateList m g) (outputList m g k))
       ∙ omega (arith, length-gates g, length-outputs g k)
 
   -- the head, the gates and the outputs stored after each other
-  pub middle-words : (n g k : ℕ) (l w₁ w₂ w₃ : List ℕ) → w₁ ≡ sets l 0 (newHead n g k) → w₂ ≡ sets w₁ headWords (joined (recordWords m) g)
-      → w₃ ≡ sets w₂ (outputsIndex g) (joined (outputWord m g) k) → w₃ ≡ sets l 0 (middleWords m n g k)
+  pub middle-words : (n g k : ℕ) (l w₁ w₂ w₃ : List ℕ) → w₁ ≡ sets l 0 (newHead n g k) → w₂ ≡ sets w₁ headWords (gateList m g)
+      → w₃ ≡ sets w₂ (outputsIndex g) (outputList m g k) → w₃ ≡ sets l 0 (middleWords m n g k)
   unfolding middleWords
   middle-words n g k l w₁ w₂ w₃ e₁ e₂ e₃ =
-      let gs = joined (recordWords m) g in
-      let os = joined (outputWord m g) k in
+      let gs = gateList m g in
+      let os = outputList m g k in
       rw (sets-append (newHead n g k) (gs ++ os) l 0 headWords refl, sets-append gs os _ headWords (outputsIndex g) (gate-place g), ← e₁, ← e₂) e₃
 
 -- the words that the code stores of a record
@@ -73,7 +72,7 @@ unfolding imageWords
 length-words bs = length-middle (middle bs) (imageInputs bs) (imageGates bs) (imageOutputs bs)
 
 pub stored-front : (bs l w : List ℕ) → needed (imageGates bs) (imageOutputs bs) ≤ length l → w ≡ sets l 0 (imageWords bs)
-    → w ≡ imageWords bs ++ drop (needed (imageGates bs) (imageOutputs bs)) l
+    → w ≡ imageOver bs l
 stored-front bs l w h e =
     let i : 0 + length (imageWords bs) ≡ needed (imageGates bs) (imageOutputs bs) = omega (arith, length-words bs) in
     e ∙ sets-eq (imageWords bs) l 0 (omega arith) ∙ ap (λ (i : ℕ). imageWords bs ++ drop i l) i

@@ -7,10 +7,9 @@ use lib.ListN.{getD, take, drop, List·getD-append}
 use lib.Seq.{drop-append-add, drop-at, take-at, getD-drop}
 use Rattle.area.specs.Layout.{headWords, inputs, gates, outputs, pattern}
 use Rattle.area.specs.Layout.{gateWords, gateIndex, pinCount, table, pinsIndex, pins, flipIndex, flip, figureIndex, figure, outputWords}
-use Rattle.lists.specs.Lists.{joined}
 use Rattle.lists.proofs.Joined.{drop-joined}
 use Rattle.image.specs.Image.{imageInputs, imageGates, imageOutputs, middle, recordCount, recordTable, recordPins}
-use Rattle.image.specs.Loading.{recordUnits, newHead, recordWords, outputWord, middleWords, imageWords}
+use Rattle.image.specs.Loading.{recordUnits, newHead, recordWords, gateList, outputList, middleWords, imageWords}
 use Rattle.image.proofs.Middle.{length-gates, length-outputs}
 
 -- gate j's words are those of its record
@@ -39,32 +38,29 @@ module _ (bs rest : List ℕ) where
   unfolding imageWords middleWords
   head-pattern = refl
 
-  records : List ℕ
-  records = joined (recordWords (middle bs)) (imageGates bs)
-
-  sources : List ℕ
-  sources = joined (outputWord (middle bs) (imageGates bs)) (imageOutputs bs)
-
-  after-head : (i : ℕ) → drop (headWords + i) (imageWords bs ++ rest) ≡ drop i (records ++ (sources ++ rest))
-  unfolding imageWords middleWords records sources
+  after-head : (i : ℕ) → drop (headWords + i) (imageWords bs ++ rest)
+      ≡ drop i (gateList (middle bs) (imageGates bs) ++ (outputList (middle bs) (imageGates bs) (imageOutputs bs) ++ rest))
+  unfolding imageWords middleWords
   after-head i =
+      let records = gateList (middle bs) (imageGates bs) in
+      let sources = outputList (middle bs) (imageGates bs) (imageOutputs bs) in
       let head = newHead (imageInputs bs) (imageGates bs) (imageOutputs bs) in
       ap (λ (l : List ℕ). drop (headWords + i) (head ++ l)) (append-assoc records sources rest) ∙ drop-append-add head (records ++ (sources ++ rest)) i
 
-  pub outputs-held : outputWords (imageWords bs ++ rest) ≡ joined (outputWord (middle bs) (imageGates bs)) (imageOutputs bs)
-  unfolding records sources
+  pub outputs-held : outputWords (imageWords bs ++ rest) ≡ outputList (middle bs) (imageGates bs) (imageOutputs bs)
   outputs-held =
       let g = imageGates bs in
+      let records = gateList (middle bs) g in
+      let sources = outputList (middle bs) g (imageOutputs bs) in
       rw (head-gates, head-outputs, after-head (gateWords * g), drop-at records (sources ++ rest) (gateWords * g) (length-gates (middle bs) g))
       (take-at sources rest (imageOutputs bs) (length-outputs (middle bs) g (imageOutputs bs)))
 
   word-at : (j : ℕ) → j < imageGates bs → (p i : ℕ) → i < gateWords → p ≡ gateIndex j + i
       → getD (imageWords bs ++ rest) p 0 ≡ getD (recordWords (middle bs) j) i 0
-  unfolding records
   word-at j l p i h e =
       let ws = imageWords bs ++ rest in
       let own = recordWords (middle bs) j in
-      let d = drop-joined (recordWords (middle bs)) gateWords (λ k. refl) (imageGates bs) j l (sources ++ rest) in
+      let d = drop-joined (recordWords (middle bs)) gateWords (λ k. refl) (imageGates bs) j l _ in
       ap (λ (q : ℕ). getD ws q 0) e ∙ sym (getD-drop (gateIndex j) ws i 0) ∙ ap (λ (v : List ℕ). getD v i 0) (after-head (gateWords * j) ∙ d .1)
       ∙ List·getD-append own (d .0) 0 i h
 

@@ -3,9 +3,8 @@ use Prim.Native.Nat.{ℕ, zero, suc}
 use mathlib.Core.List.{List, [], _∷_}
 use lib.ListN.{take}
 use Rattle.netlist.specs.Netlist.{Gate, Netlist}
-use Rattle.lists.specs.Lists.{joined}
 use Rattle.image.specs.Image.{imageInputs, imageGates, imageOutputs, middle, recordCount, recordKind, recordTable, recordPins}
-use Rattle.image.specs.Loading.{recordChance, outputWord}
+use Rattle.image.specs.Loading.{recordChance, outputList}
 
 abbrev pub recordGate : List ℕ → ℕ → Gate
 recordGate m j =
@@ -26,5 +25,5 @@ imageNet bs =
     record {
       inputs = imageInputs bs;
       gates = recordGates (middle bs) 0 (imageGates bs);
-      outputs = joined (outputWord (middle bs) (imageGates bs)) (imageOutputs bs);
+      outputs = outputList (middle bs) (imageGates bs) (imageOutputs bs);
     }

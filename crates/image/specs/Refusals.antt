@@ -42,8 +42,11 @@ outputRefusal m n g k = refuseUnless (ltb (outputAt m g k) (n + g)) 8 k
 unfoldable pub middleRefusal : List ℕ → ℕ → ℕ → ℕ → Judgement
 middleRefusal m n g k = otherwise (lowest (gateRefusal m n) g) (lowest (outputRefusal m n g) k)
 
+abbrev pub netlistRefusal : List ℕ → Judgement
+netlistRefusal bs = middleRefusal (middle bs) (imageInputs bs) (imageGates bs) (imageOutputs bs)
+
 unfoldable pub imageRefusal : List ℕ → Judgement
-imageRefusal bs = otherwise (trailerRefusal bs) (middleRefusal (middle bs) (imageInputs bs) (imageGates bs) (imageOutputs bs))
+imageRefusal bs = otherwise (trailerRefusal bs) (netlistRefusal bs)
 
 -- what is known of a trailer that passes
 pub record TrailerRight (bs : List ℕ) : Type 0 where

@@ -1,17 +1,15 @@
 // Reading a netlist image: refusals 1 to 8 of document 01, and the words of a work area whose figures are not worked out.
 ghost use mathlib.Core.Path.{_≡_};
 ghost use Prim.Native.Nat.{_+_, _<_, _≤_};
-ghost use mathlib.Core.List.{_++_};
-ghost use lib.ListN.{length, drop};
+ghost use lib.ListN.{length};
 ghost use lib.Seq.{sets};
 ghost use Rattle.refusal.specs.declared.Judgement.the-variants.{Fine};
 ghost use Rattle.refusal.specs.Judgement.{lowest};
-ghost use Rattle.lists.specs.Lists.{joined};
 ghost use Rattle.area.specs.Layout.{mostInputs, mostGates, mostOutputs, mostWords, headWords, gateIndex, figureIndex, outputsIndex, needed};
-ghost use Rattle.image.specs.Image.{trailerBytes, middleBytes, recordBytes, u16At, u32At, fourNumbers, eightBytes};
-ghost use Rattle.image.specs.Image.{imageInputs, imageGates, imageOutputs, middle, recordAt};
-ghost use Rattle.image.specs.Refusals.{lengthRight, backRight, trailerRefusal, TrailerRight, gateRefusal, outputRefusal, middleRefusal, imageRefusal};
-ghost use Rattle.image.specs.Loading.{recordWords, outputWord, middleWords, imageWords};
+ghost use Rattle.image.specs.Image.{trailerBytes, middleBytes, recordBytes, outputBytes, u16At, u32At, fourNumbers, eightBytes, recordAt};
+ghost use Rattle.image.specs.Refusals.{lengthRight, backRight, trailerRefusal, TrailerRight};
+ghost use Rattle.image.specs.Refusals.{gateRefusal, outputRefusal, middleRefusal, netlistRefusal, imageRefusal};
+ghost use Rattle.image.specs.Loading.{recordWords, outputWord, gateList, outputList, middleWords, imageWords, imageOver};
 use chance::FlipUnits;
 use refusal::Judgement;
 
@@ -143,7 +141,7 @@ fn load_gates(middle: &[u8], inputs: usize, gates: usize, words: &mut [u32]) -> 
     requires { ⌜ outputsIndex gates ≤ length (now words) ⌝ }
     requires { ⌜ (inputs ≤ mostInputs) × (gates ≤ mostGates) ⌝ }
     ensures { λ r. ⌜ r ≡ lowest (gateRefusal (now (middle .entry)) inputs) gates ⌝ }
-    ensures { λ r. ⌜ (r ≡ Fine → now (words .exit) ≡ sets (now (words .entry)) headWords (joined (recordWords (now (middle .entry))) gates)) ⌝ }
+    ensures { λ r. ⌜ (r ≡ Fine → now (words .exit) ≡ sets (now (words .entry)) headWords (gateList (now (middle .entry)) gates)) ⌝ }
 {
     let mut j = 0;
     while j < gates {
@@ -161,7 +159,7 @@ fn load_gates(middle: &[u8], inputs: usize, gates: usize, words: &mut [u32]) -> 
 
 // Output k: refusal 8, else its word.
 fn load_output(middle: &[u8], inputs: usize, gates: usize, k: usize, words: &mut [u32]) -> Judgement
-    requires { ⌜ middleBytes gates k + 2 ≤ length (now middle) ⌝ }
+    requires { ⌜ middleBytes gates k + outputBytes ≤ length (now middle) ⌝ }
     requires { ⌜ outputsIndex gates + k < length (now words) ⌝ }
     requires { ⌜ (inputs ≤ mostInputs) × (gates ≤ mostGates) × (k < mostOutputs) ⌝ }
     ensures { λ r. ⌜ r ≡ outputRefusal (now (middle .entry)) inputs gates k ⌝ }
@@ -176,12 +174,18 @@ fn load_output(middle: &[u8], inputs: usize, gates: usize, k: usize, words: &mut
 }
 
 // Each output in turn.
-fn load_outputs(middle: &[u8], inputs: usize, gates: usize, outputs: usize, words: &mut [u32]) -> Judgement
+fn load_outputs(
+    middle: &[u8],
+    inputs: usize,
+    gates: usize,
+    outputs: usize,
+    words: &mut [u32],
+) -> Judgement
     requires { ⌜ middleBytes gates outputs ≤ length (now middle) ⌝ }
     requires { ⌜ needed gates outputs ≤ length (now words) ⌝ }
     requires { ⌜ (inputs ≤ mostInputs) × (gates ≤ mostGates) × (outputs ≤ mostOutputs) ⌝ }
     ensures { λ r. ⌜ r ≡ lowest (outputRefusal (now (middle .entry)) inputs gates) outputs ⌝ }
-    ensures { λ r. ⌜ (r ≡ Fine → now (words .exit) ≡ sets (now (words .entry)) (outputsIndex gates) (joined (outputWord (now (middle .entry)) gates) outputs)) ⌝ }
+    ensures { λ r. ⌜ (r ≡ Fine → now (words .exit) ≡ sets (now (words .entry)) (outputsIndex gates) (outputList (now (middle .entry)) gates outputs)) ⌝ }
 {
     let mut k = 0;
     while k < outputs {
@@ -198,7 +202,13 @@ fn load_outputs(middle: &[u8], inputs: usize, gates: usize, outputs: usize, word
 }
 
 // The head of the area, and after it the gates and the outputs of an image's middle.
-fn load_middle(middle: &[u8], inputs: usize, gates: usize, outputs: usize, words: &mut [u32]) -> Judgement
+fn load_middle(
+    middle: &[u8],
+    inputs: usize,
+    gates: usize,
+    outputs: usize,
+    words: &mut [u32],
+) -> Judgement
     requires { ⌜ middleBytes gates outputs ≤ length (now middle) ⌝ }
     requires { ⌜ mostWords ≤ length (now words) ⌝ }
     requires { ⌜ (inputs ≤ mostInputs) × (gates ≤ mostGates) × (outputs ≤ mostOutputs) ⌝ }
@@ -269,7 +279,7 @@ fn judge_trailer(image: &[u8]) -> Judgement
 fn load_netlist(image: &[u8], words: &mut [u32]) -> Judgement
     requires { ⌜ TrailerRight (now image) ⌝ }
     requires { ⌜ mostWords ≤ length (now words) ⌝ }
-    ensures { λ r. ⌜ r ≡ middleRefusal (middle (now (image .entry))) (imageInputs (now (image .entry))) (imageGates (now (image .entry))) (imageOutputs (now (image .entry))) ⌝ }
+    ensures { λ r. ⌜ r ≡ netlistRefusal (now (image .entry)) ⌝ }
     ensures { λ r. ⌜ (r ≡ Fine → now (words .exit) ≡ sets (now (words .entry)) 0 (imageWords (now (image .entry)))) ⌝ }
 {
     let at = image.len() - TRAILER_BYTES;
@@ -285,7 +295,7 @@ fn load_netlist(image: &[u8], words: &mut [u32]) -> Judgement
 pub fn load(image: &[u8], words: &mut [u32]) -> Judgement
     requires { ⌜ mostWords ≤ length (now words) ⌝ }
     ensures { λ r. ⌜ r ≡ imageRefusal (now (image .entry)) ⌝ }
-    ensures { λ r. ⌜ (imageRefusal (now (image .entry)) ≡ Fine → now (words .exit) ≡ imageWords (now (image .entry)) ++ drop (needed (imageGates (now (image .entry))) (imageOutputs (now (image .entry)))) (now (words .entry))) ⌝ }
+    ensures { λ r. ⌜ (imageRefusal (now (image .entry)) ≡ Fine → now (words .exit) ≡ imageOver (now (image .entry)) (now (words .entry))) ⌝ }
 {
     match judge_trailer(image) {
         Judgement::Fine => load_netlist(image, words),

@@ -46,14 +46,18 @@ add-if1 c = search needs
 
 returns : tie.Need-returns
 unfolding backRight
-returns c = simp (ne-eqb _ _ (λ (e : imageBack (now (c .before .before .before .before .before .before .args .image)) ≡ middleBytes (imageGates (now (c .before .before .before .before .before .before .args .image))) (imageOutputs (now (c .before .before .before .before .before .before .args .image)))). c .if1 .taken (omega arith)))
+returns c =
+    let bs = now (c .before .before .before .before .before .before .args .image) in
+    let other : imageBack bs ≡ middleBytes (imageGates bs) (imageOutputs bs) → ⊥ = λ e. c .if1 .taken (omega arith) in
+    simp (ne-eqb _ _ other)
 
 returns-2 : tie.Need-returns-2
 unfolding backRight
 returns-2 c =
     let bs = now (c .before .before .before .before .before .before .args .image) in
     let same : imageBack bs ≡ middleBytes (imageGates bs) (imageOutputs bs) = omega arith in
-    simp (eq-eqb _ _ same) (ap (λ (back : ℕ). leb back (trailerAt bs)) (c .before .before .before .index .ensures ∙ c .before .before .before .before .four-bytes .ensures))
+    let read = c .before .before .before .index .ensures ∙ c .before .before .before .before .four-bytes .ensures in
+    simp (eq-eqb _ _ same) (ap (λ (back : ℕ). leb back (trailerAt bs)) read)
 
 pub back-right-spec : {M : Type 1} → statement M
 back-right-spec =

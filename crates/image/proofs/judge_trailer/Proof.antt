@@ -7,7 +7,6 @@ use Rattle.area.specs.Rules.{countsInRange}
 use Rattle.refusal.specs.Judgement.{refuseUnless, otherwise}
 use Rattle.image.specs.Image.{knownFormat, imageInputs, imageGates, imageOutputs, imageFormat}
 use Rattle.image.specs.Refusals.{lengthRight, backRight, trailerRefusal}
-use borrow.Author.Needs.{needs}
 use Rattle.image.proofs.judge_trailer.Statement.{statement}
 use Rattle.image.proofs.judge_trailer.Tie as tie
 
@@ -25,18 +24,6 @@ returns-2 c = simp (← c .before .length-right .ensures, not-true (c .before .l
 sub-at : tie.Need-sub-at
 sub-at c = search needs
 
--- what is left once 1 and 2 are passed
-left-over : (c : tie.After-counts-in-range) →
-    let bs = now (c .before .before .before .before .before .before .before .before .before .before .args .image) in
-    trailerRefusal bs ≡ otherwise (refuseUnless (c .counts-in-range .result) 3 0) (refuseUnless (backRight bs) 4 0)
-unfolding trailerRefusal
-left-over c =
-    let bs = now (c .before .before .before .before .before .before .before .before .before .before .args .image) in
-    let right = c .before .before .before .before .before .before .before .length-right in
-    let form = eq-eqb (imageFormat bs) knownFormat (sym (c .before .before .before .before .before .two-bytes .ensures .0) ∙ c .before .before .before .before .if3 .left) in
-    let counts : countsInRange (imageInputs bs) (imageGates bs) (imageOutputs bs) ≡ c .counts-in-range .result = cc in
-    simp (← right .ensures, not-false (right .result) (c .before .before .before .before .before .before .if2 .left), form, counts)
-
 add-two-bytes : tie.Need-add-two-bytes
 add-two-bytes c = search needs
 
@@ -46,8 +33,10 @@ two-bytes-requires c κs = search needs
 returns-3 : tie.Need-returns-3
 unfolding trailerRefusal
 returns-3 c =
-    let other = ne-eqb (imageFormat (now (c .before .before .before .before .before .before .args .image))) knownFormat (λ e. c .if3 .taken (c .before .two-bytes .ensures .0 ∙ e)) in
-    simp (← c .before .before .before .length-right .ensures, not-false (c .before .before .before .length-right .result) (c .before .before .if2 .left), other)
+    let bs = now (c .before .before .before .before .before .before .args .image) in
+    let right = c .before .before .before .length-right in
+    let other = ne-eqb (imageFormat bs) knownFormat (λ e. c .if3 .taken (c .before .two-bytes .ensures .0 ∙ e)) in
+    simp (← right .ensures, not-false (right .result) (c .before .before .if2 .left), other)
 
 count-requires : tie.Need-count-requires
 count-requires c κs = search needs
@@ -67,6 +56,19 @@ count-requires-3 c κs = search needs
 counts-in-range-requires : tie.Need-counts-in-range-requires
 counts-in-range-requires c κs = search needs
 
+-- what is left once 1 and 2 are passed
+left-over : (c : tie.After-counts-in-range) →
+    let bs = now (c .before .before .before .before .before .before .before .before .before .before .args .image) in
+    trailerRefusal bs ≡ otherwise (refuseUnless (c .counts-in-range .result) 3 0) (refuseUnless (backRight bs) 4 0)
+unfolding trailerRefusal
+left-over c =
+    let bs = now (c .before .before .before .before .before .before .before .before .before .before .args .image) in
+    let right = c .before .before .before .before .before .before .before .length-right in
+    let same = sym (c .before .before .before .before .before .two-bytes .ensures .0) ∙ c .before .before .before .before .if3 .left in
+    let counts : countsInRange (imageInputs bs) (imageGates bs) (imageOutputs bs) ≡ c .counts-in-range .result = cc in
+    let passed = not-false (right .result) (c .before .before .before .before .before .before .if2 .left) in
+    simp (← right .ensures, passed, eq-eqb (imageFormat bs) knownFormat same, counts)
+
 returns-4 : tie.Need-returns-4
 returns-4 c = rw (left-over (c .before), not-true (c .before .counts-in-range .result) (c .if4 .taken))
 
@@ -75,13 +77,15 @@ back-right-requires c κs = search needs
 
 returns-5 : tie.Need-returns-5
 returns-5 c =
-    rw (left-over (c .before .before .before), not-false (c .before .before .before .counts-in-range .result) (c .before .before .if4 .left), ← c .before .back-right .ensures)
-    (rw (not-true (c .before .back-right .result) (c .if5 .taken)))
+    let back = c .before .back-right in
+    let counts = not-false (c .before .before .before .counts-in-range .result) (c .before .before .if4 .left) in
+    rw (left-over (c .before .before .before), counts, ← back .ensures) (rw (not-true (back .result) (c .if5 .taken)))
 
 returns-6 : tie.Need-returns-6
 returns-6 c =
-    rw (left-over (c .before .before .before), not-false (c .before .before .before .counts-in-range .result) (c .before .before .if4 .left), ← c .before .back-right .ensures)
-    (rw (not-false (c .before .back-right .result) (c .if5 .left)))
+    let back = c .before .back-right in
+    let counts = not-false (c .before .before .before .counts-in-range .result) (c .before .before .if4 .left) in
+    rw (left-over (c .before .before .before), counts, ← back .ensures) (rw (not-false (back .result) (c .if5 .left)))
 
 pub judge-trailer-spec : {M : Type 1} → statement M
 judge-trailer-spec =

@@ -11,7 +11,6 @@ use Rattle.image.specs.Image.{imageGates, imageOutputs}
 use Rattle.image.specs.Refusals.{trailerRefusal, imageRefusal}
 use Rattle.image.proofs.Right.{trailer-right}
 use Rattle.image.proofs.Middle.{stored-front}
-use borrow.Author.Needs.{needs}
 use Rattle.image.proofs.load.Statement.{statement}
 use Rattle.image.proofs.load.Tie as tie
 
@@ -23,7 +22,8 @@ enum-told c = search needs
 
 load-netlist-requires : tie.Need-load-netlist-requires
 load-netlist-requires c κs =
-    (trailer-right (now (c .before .before .before .before .before .before .args .image)) (sym (c .before .before .before .judge-trailer .ensures) ∙ c .before .enum-told .given .1), search needs)
+    let passed = sym (c .before .before .before .judge-trailer .ensures) ∙ c .before .enum-told .given .1 in
+    (trailer-right (now (c .before .before .before .before .before .before .args .image)) passed, search needs)
 
 enum-known-number : tie.Need-enum-known-number
 enum-known-number c = search needs
@@ -34,18 +34,22 @@ same-length c = search needs
 returns : tie.Need-returns
 unfolding imageRefusal
 returns c =
-    let bs = now (c .before .before .before .before .before .before .before .before .before .args .image) in
+    let start = c .before .before .before .before .before .before .before .before .before in
+    let bs = now (start .args .image) in
+    let ws = now (start .args .words) in
+    let net = c .before .before .load-netlist in
     let passed = sym (c .before .before .before .before .before .before .judge-trailer .ensures) ∙ c .before .before .before .before .enum-told .given .1 in
-    let answer = c .before .before .load-netlist .ensures .0 ∙ sym (otherwise-second (trailerRefusal bs) _ passed) in
+    let answer = net .ensures .0 ∙ sym (otherwise-second (trailerRefusal bs) _ passed) in
     let t = trailer-right bs passed in
-    let room : needed (imageGates bs) (imageOutputs bs) ≤ length (now (c .before .before .before .before .before .before .before .before .before .args .words)) = omega (arith, c .before .before .before .before .before .before .before .before .before .pre) in
-    (answer, λ e. stored-front bs (now (c .before .before .before .before .before .before .before .before .before .args .words)) _ room (c .before .before .load-netlist .ensures .1 (answer ∙ e)))
+    let room : needed (imageGates bs) (imageOutputs bs) ≤ length ws = omega (arith, start .pre) in
+    (answer, λ e. stored-front bs ws _ room (net .ensures .1 (answer ∙ e)))
 
 returns-2 : tie.Need-returns-2
 unfolding imageRefusal
 returns-2 c =
-    let refused = otherwise-first (trailerRefusal (now (c .before .before .before .before .before .before .args .image))) _ _ _ (sym (c .before .before .before .judge-trailer .ensures) ∙ c .before .number .given .1) in
-    (sym refused, λ e. never-both (imageRefusal (now (c .before .before .before .before .before .before .args .image))) _ _ e refused)
+    let bs = now (c .before .before .before .before .before .before .args .image) in
+    let refused = otherwise-first (trailerRefusal bs) _ _ _ (sym (c .before .before .before .judge-trailer .ensures) ∙ c .before .number .given .1) in
+    (sym refused, λ e. never-both (imageRefusal bs) _ _ e refused)
 
 pub load-spec : {M : Type 1} → statement M
 load-spec =

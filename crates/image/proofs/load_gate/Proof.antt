@@ -16,7 +16,6 @@ use Rattle.refusal.proofs.Laws.{refused-not-fine}
 use Rattle.image.specs.Image.{recordCount, recordKind, recordTable, recordPins, recordField}
 use Rattle.image.specs.Refusals.{gateRefusal}
 use Rattle.image.proofs.Middle.{record-stored}
-use borrow.Author.Needs.{needs}
 use Rattle.image.proofs.load_gate.Statement.{statement}
 use Rattle.image.proofs.load_gate.Tie as tie
 
@@ -53,12 +52,13 @@ cast-t18 c = search needs
 -- the first test as the code asked it
 shape : (c : tie.After-gate-shape) →
     let a = c .before .before .before .before .before .before .before .before .args in
-    gateShape (recordCount (now (a .middle)) (a .j)) (recordTable (now (a .middle)) (a .j)) (recordPins (now (a .middle)) (a .j)) ≡ c .gate-shape .result
+    let m = now (a .middle) in
+    gateShape (recordCount m (a .j)) (recordTable m (a .j)) (recordPins m (a .j)) ≡ c .gate-shape .result
 shape c = cc
 
 returns : tie.Need-returns
 unfolding gateRefusal
-returns c = (simp (shape (c .before), not-true (c .before .gate-shape .result) (c .if1 .taken)), refused-not-fine 5 (c .before .before .before .before .before .before .before .before .before .args .j))
+returns c = (simp (shape (c .before), not-true (c .before .gate-shape .result) (c .if1 .taken)), refused-not-fine 5 _)
 
 add-used-below : tie.Need-add-used-below
 add-used-below c = search needs
@@ -66,7 +66,7 @@ add-used-below c = search needs
 used-below-requires : tie.Need-used-below-requires
 used-below-requires c κs =
     let passed = sym (c .before .gate-shape .ensures) ∙ not-false (c .before .gate-shape .result) (c .if1 .left) in
-    shape-holds (c .before .before .before .before .index .result) (c .before .before .before .two-bytes .result) (c .before .before .four-numbers .result) passed .pin-count
+    shape-holds _ (c .before .before .before .two-bytes .result) (c .before .before .four-numbers .result) passed .pin-count
 
 cast-t19 : tie.Need-cast-t19
 cast-t19 c = search needs
@@ -74,8 +74,9 @@ cast-t19 c = search needs
 -- what is left once 5 is passed
 left-over : (c : tie.After-used-below) →
     let a = c .before .before .before .before .before .before .before .before .before .before .args in
-    let flip = flipAccepted (recordKind (now (a .middle)) (a .j)) (recordField (now (a .middle)) (a .j)) in
-    gateRefusal (now (a .middle)) (a .inputs) (a .j) ≡ otherwise (refuseUnless (c .used-below .result) 6 (a .j)) (refuseUnless flip 7 (a .j))
+    let m = now (a .middle) in
+    let flip = flipAccepted (recordKind m (a .j)) (recordField m (a .j)) in
+    gateRefusal m (a .inputs) (a .j) ≡ otherwise (refuseUnless (c .used-below .result) 6 (a .j)) (refuseUnless flip 7 (a .j))
 unfolding gateRefusal
 left-over c =
     let a = c .before .before .before .before .before .before .before .before .before .before .args in
@@ -84,7 +85,7 @@ left-over c =
     simp (shape (c .before .before), not-false (c .before .before .gate-shape .result) (c .before .if1 .left), used)
 
 returns-2 : tie.Need-returns-2
-returns-2 c = (rw (left-over (c .before), not-true (c .before .used-below .result) (c .if2 .taken)), refused-not-fine 6 (c .before .before .before .before .before .before .before .before .before .before .before .args .j))
+returns-2 c = (rw (left-over (c .before), not-true (c .before .used-below .result) (c .if2 .taken)), refused-not-fine 6 _)
 
 add-read-units : tie.Need-add-read-units
 add-read-units c = search needs
@@ -136,24 +137,28 @@ same-length c = search needs
 
 returns-3 : tie.Need-returns-3
 returns-3 c =
-    let a = c .before .before .before .before .before .before .before .before .before .before .before .before .before .before .before .before .before .before .before .before .before .before .before .args in
+    let told = c .before .before .before .before .before .before .before in
+    let asked = told .before .before .before .before .before .before in
+    let read = asked .before .before .before in
+    let a = asked .before .before .before .before .before .before .before .before .before .before .args in
     let m = now (a .middle) in
-    let units = c .before .before .before .before .before .before .before .units .given .0 .0 in
-    let read : readUnits (recordKind m (a .j)) (recordField m (a .j)) ≡ Units units = cc in
-    let said = units-accepted (recordKind m (a .j)) (recordField m (a .j)) units read in (
-      rw (left-over (c .before .before .before .before .before .before .before .before .before .before .before .before .before), not-false (c .before .before .before .before .before .before .before .before .before .before .before .before .before .used-below .result) (c .before .before .before .before .before .before .before .before .before .before .before .before .if2 .left), said .0),
-      λ e.
-          let words = record-stored m (a .j) _ _ units _ (c .before .before .before .before .before .before .before .before .before .before .before .before .before .before .before .before .before .before .before .wide .ensures .0) (c .before .before .before .before .before .before .before .before .before .before .before .before .before .before .before .before .before .two-bytes .ensures .0) (c .before .before .before .before .before .before .before .before .before .before .before .before .before .before .before .before .four-numbers .ensures) (said .1) in
-          c .before .before .store .ensures ∙ ap₂ (sets (now (a .words))) (c .before .before .before .before .gate-index .ensures) words,
+    let units = told .units .given .0 .0 in
+    let is : readUnits (recordKind m (a .j)) (recordField m (a .j)) ≡ Units units = cc in
+    let said = units-accepted (recordKind m (a .j)) (recordField m (a .j)) units is in
+    let count = read .before .before .before .wide .ensures .0 in
+    let words = record-stored m (a .j) _ _ units _ count (read .before .two-bytes .ensures .0) (read .four-numbers .ensures) (said .1) in (
+      rw (left-over asked, not-false (asked .used-below .result) (told .before .before .before .before .before .if2 .left), said .0),
+      λ e. c .before .before .store .ensures ∙ ap₂ (sets (now (a .words))) (c .before .before .before .before .gate-index .ensures) words,
     )
 
 returns-4 : tie.Need-returns-4
 returns-4 c =
-    let a = c .before .before .before .before .before .before .before .before .before .before .before .before .before .before .before .before .args in
+    let asked = c .before .before .before .before .before .before in
+    let a = asked .before .before .before .before .before .before .before .before .before .before .args in
     let m = now (a .middle) in
-    let read : readUnits (recordKind m (a .j)) (recordField m (a .j)) ≡ NoUnits = cc in
-    let bad = units-refused (recordKind m (a .j)) (recordField m (a .j)) read in
-    (rw (left-over (c .before .before .before .before .before .before), not-false (c .before .before .before .before .before .before .used-below .result) (c .before .before .before .before .before .if2 .left), bad), refused-not-fine 7 (a .j))
+    let is : readUnits (recordKind m (a .j)) (recordField m (a .j)) ≡ NoUnits = cc in
+    let bad = units-refused (recordKind m (a .j)) (recordField m (a .j)) is in
+    (rw (left-over asked, not-false (asked .used-below .result) (c .before .before .before .before .before .if2 .left), bad), refused-not-fine 7 _)
 
 pub load-gate-spec : {M : Type 1} → statement M
 load-gate-spec =

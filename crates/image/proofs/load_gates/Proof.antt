@@ -38,8 +38,10 @@ loop-less c = search needs
 loop-again : tie.Need-loop-again Inv-loop μ-loop
 loop-again c =
     let l = c .before .before .before .before .before .before .before .loop in
-    let f = c .before .before .before .before .load-gate in
-    (omega arith, goes-on (l .inv .1) (gateIndex (l .j)) (f .result) _ (gate-place (now (c .before .before .before .before .before .before .before .before .before .before .args .middle)) (l .j)) (f .ensures) (c .enum-told .given .1))
+    let a = c .before .before .before .before .before .before .before .before .before .before .args in
+    let step = c .before .before .before .before .load-gate in
+    let place = gate-place (now (a .middle)) (l .j) in
+    (omega arith, goes-on (l .inv .1) (gateIndex (l .j)) (step .result) _ place (step .ensures) (c .enum-told .given .1))
 
 enum-known-number : tie.Need-enum-known-number Inv-loop μ-loop
 enum-known-number c = search needs
@@ -48,7 +50,11 @@ same-length : tie.Need-same-length Inv-loop μ-loop
 same-length c = search needs
 
 returns : tie.Need-returns Inv-loop μ-loop
-returns c = stops (c .before .before .before .before .before .before .before .before .loop .inv .1) (c .before .before .before .before .before .before .before .before .before .before .before .args .gates) _ _ (c .before .before .before .before .before .load-gate .result) _ (omega arith) (c .before .before .before .before .before .load-gate .ensures .0) (c .before .number .given .1)
+returns c =
+    let passed = c .before .before .before .before .before .before .before .before .loop .inv .1 in
+    let a = c .before .before .before .before .before .before .before .before .before .before .before .args in
+    let step = c .before .before .before .before .before .load-gate in
+    stops passed (a .gates) _ _ (step .result) _ (omega arith) (step .ensures .0) (c .before .number .given .1)
 
 same-length-2 : tie.Need-same-length-2 Inv-loop μ-loop
 same-length-2 c = search needs

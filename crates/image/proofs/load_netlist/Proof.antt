@@ -5,7 +5,6 @@ use denote.Ref.{now}
 use borrow.Author.Needs.{needs}
 use Rattle.image.specs.Loading.{imageWords}
 use Rattle.image.proofs.Middle.{part-middle, length-of-middle}
-use borrow.Author.Needs.{needs}
 use Rattle.image.proofs.load_netlist.Statement.{statement}
 use Rattle.image.proofs.load_netlist.Tie as tie
 
@@ -62,7 +61,9 @@ same-length c = search needs
 returns : tie.Need-returns
 unfolding imageWords
 returns c =
-    let whole = part-middle (now (c .before .before .before .before .before .before .before .before .before .before .before .before .args .image)) (c .before .before .before .before .before .index .result) (c .before .before .before .before .before .before .before .before .before .before .before .before .pre .0) (c .before .before .before .before .before .index .ensures ∙ c .before .before .before .before .before .before .four-bytes .ensures) in
+    let read = c .before .before .before .before .before in
+    let start = read .before .before .before .before .before .before .before in
+    let whole = part-middle (now (start .args .image)) (read .index .result) (start .pre .0) (read .index .ensures ∙ read .before .four-bytes .ensures) in
     (cc, λ e. let stored = c .before .before .load-middle .ensures .1 e in cc)
 
 pub load-netlist-spec : {M : Type 1} → statement M

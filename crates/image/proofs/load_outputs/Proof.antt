@@ -38,8 +38,10 @@ loop-less c = search needs
 loop-again : tie.Need-loop-again Inv-loop μ-loop
 loop-again c =
     let l = c .before .before .before .before .before .before .before .loop in
-    let f = c .before .before .before .before .load-output in
-    (omega arith, goes-on (l .inv .1) (outputsIndex (c .before .before .before .before .before .before .before .before .before .before .args .gates) + l .k) (f .result) _ (output-place (now (c .before .before .before .before .before .before .before .before .before .before .args .middle)) (c .before .before .before .before .before .before .before .before .before .before .args .gates) (l .k)) (f .ensures) (c .enum-told .given .1))
+    let a = c .before .before .before .before .before .before .before .before .before .before .args in
+    let step = c .before .before .before .before .load-output in
+    let place = output-place (now (a .middle)) (a .gates) (l .k) in
+    (omega arith, goes-on (l .inv .1) (outputsIndex (a .gates) + l .k) (step .result) _ place (step .ensures) (c .enum-told .given .1))
 
 enum-known-number : tie.Need-enum-known-number Inv-loop μ-loop
 enum-known-number c = search needs
@@ -48,7 +50,11 @@ same-length : tie.Need-same-length Inv-loop μ-loop
 same-length c = search needs
 
 returns : tie.Need-returns Inv-loop μ-loop
-returns c = stops (c .before .before .before .before .before .before .before .before .loop .inv .1) (c .before .before .before .before .before .before .before .before .before .before .before .args .outputs) _ _ (c .before .before .before .before .before .load-output .result) _ (omega arith) (c .before .before .before .before .before .load-output .ensures .0) (c .before .number .given .1)
+returns c =
+    let passed = c .before .before .before .before .before .before .before .before .loop .inv .1 in
+    let a = c .before .before .before .before .before .before .before .before .before .before .before .args in
+    let step = c .before .before .before .before .before .load-output in
+    stops passed (a .outputs) _ _ (step .result) _ (omega arith) (step .ensures .0) (c .before .number .given .1)
 
 same-length-2 : tie.Need-same-length-2 Inv-loop μ-loop
 same-length-2 c = search needs
