@@ -32,7 +32,7 @@ use Rattle.book.proofs.Average.{average-within}
 use Rattle.book.proofs.Open.{opened}
 use Rattle.book.specs.Statement.{AnswerKept}
 use Rattle.calls.specs.Judgements.{Call, argumentJudgement, openJudgement}
-use Rattle.calls.proofs.Judgements.{named-fine, only-open, set-fine, weights-fine}
+use Rattle.calls.proofs.Judgements.{only-open, set-fine, weights-fine, toggle-fine}
 
 pub shown-open : (bs : List ℕ) → Shown (open-image bs)
 shown-open bs =
@@ -66,10 +66,9 @@ toggled i size ws b agree l =
     }
 
 pub shown-toggle : (i : ℕ) → Shown (toggle-input i)
-unfolding argumentJudgement
 shown-toggle i =
     shown-lent (toggle-input i) (λ ws. refl) (λ b size. refl)
-    (record { agrees = λ size ws b agree e. toggled i size ws b agree (named-fine i (inputs ws) e); answers = λ size ws b agree e. tt })
+    (record { agrees = λ size ws b agree e. toggled i size ws b agree (toggle-fine (inputs ws) (gates ws) i e); answers = λ size ws b agree e. tt })
 
 -- ---- setting a flip
 
