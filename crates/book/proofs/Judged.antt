@@ -1,5 +1,5 @@
 -- Judgements: where the words agree with the book, 13 and 14 do not apply to the area; and no call is ever judged to get 14 by the book. Assumes nothing.
-use Prim.Native.Nat.{ℕ, zero, suc, _+_, _^_, _<_}
+use Prim.Native.Nat.{ℕ, _^_, _<_}
 use mathlib.Core.Bool.{Bool, not}
 use mathlib.Core.List.{List, []}
 use mathlib.Core.Path.{_≡_, ap}
@@ -15,7 +15,7 @@ use Rattle.area.specs.Net.{netOf}
 use Rattle.rules.proofs.Sound.{sound-passes}
 use Rattle.refusal.specs.declared.Judgement.{Judgement}
 use Rattle.refusal.specs.declared.Judgement.the-variants.{Fine}
-use Rattle.refusal.specs.Judgement.{refuseUnless, otherwise, lowest}
+use Rattle.refusal.specs.Judgement.{refuseUnless, otherwise}
 use Rattle.image.specs.Image.{imageGates, imageOutputs}
 use Rattle.image.specs.Loading.{imageWords}
 use Rattle.refusal.proofs.Laws.{unless-fine, otherwise-second, Never, never-unless, never-otherwise, never-lowest}
