@@ -11,32 +11,25 @@ ghost use Rattle.area.specs.Rules.{Sound};
 ghost use Rattle.area.specs.Figures.{productFrom};
 ghost use Rattle.work.specs.Work.{workAll};
 ghost use Rattle.refusal.specs.declared.Judgement.the-variants.{Fine};
-ghost use Rattle.calls.specs.Judged.{weightsJudgement};
+ghost use Rattle.calls.specs.Judgements.{weightsJudgement};
 ghost use Rattle.calls.specs.Calls.{averageOf};
 ghost use Rattle.average.specs.Weights.{weightsAnswer, FirstHeavy};
 ghost use Rattle.average.specs.Walk.{Fitting, weightedTo};
 ghost use Rattle.average.specs.Blocks.{ReadersOf, Block, OutputLanes};
 
-const LARGEST_WEIGHT: u32 = 1_048_575;
-
-// What weights are: fine, or refused with this place.
-pub enum WeightsJudged {
-    Fine,
-    Refused(u32),
-}
-
-// The lowest place of a weight that is too large; the length if there is none.
-fn first_heavy(weights: &[u32]) -> usize
-    ensures { λ r. ⌜ FirstHeavy (now (weights .entry)) r ⌝ }
+// Refusal 12 by the weights themselves: the lowest that is too large.
+fn judge_each(weights: &[u32]) -> Judgement
+    requires { ⌜ length (now weights) ≤ mostPatterns ⌝ }
+    ensures { λ r. ⌜ r ≡ lowest (weightJudgement (now (weights .entry))) (length (now (weights .entry))) ⌝ }
 {
     let mut q = 0;
     while q < weights.len() {
-        if weights[q] > LARGEST_WEIGHT {
-            return q;
+        if weights[q] > area::LARGEST_WEIGHT {
+            return Judgement::Refused(refusal::WEIGHTS, q as u32);
         }
         q += 1;
     }
-    q
+    Judgement::Fine
 }
 
 fn all_zero(weights: &[u32]) -> bool
@@ -52,22 +45,23 @@ fn all_zero(weights: &[u32]) -> bool
     true
 }
 
-// Refusal 12, in its order: the length, then the lowest weight that is too large, then no weight at all.
-pub fn judge_weights(inputs: usize, weights: &[u32]) -> WeightsJudged
-    requires { ⌜ inputs ≤ 12 ⌝ }
-    ensures { λ r. ⌜ r ≡ weightsAnswer (weightsJudgement inputs (now (weights .entry))) ⌝ }
+// Refusal 12 in its order: the length, then the lowest weight that is too large, then no weight at all.
+pub fn judge_weights(inputs: usize, weights: &[u32]) -> Judgement
+    requires { ⌜ inputs ≤ mostInputs ⌝ }
+    ensures { λ r. ⌜ r ≡ weightsJudgement inputs (now (weights .entry)) ⌝ }
 {
     if weights.len() != 1 << inputs {
-        return WeightsJudged::Refused(0);
+        return Judgement::Refused(refusal::WEIGHTS, 0);
     }
-    let heavy = first_heavy(weights);
-    if heavy < weights.len() {
-        return WeightsJudged::Refused(heavy as u32);
+    match judge_each(weights) {
+        Judgement::Fine => {
+            if all_zero(weights) {
+                return Judgement::Refused(refusal::WEIGHTS, 0);
+            }
+            Judgement::Fine
+        }
+        Judgement::Refused(number, place) => Judgement::Refused(number, place),
     }
-    if all_zero(weights) {
-        return WeightsJudged::Refused(0);
-    }
-    WeightsJudged::Fine
 }
 
 fn total_weight(weights: &[u32]) -> u64

@@ -3,20 +3,18 @@ ghost use mathlib.Core.Path.{_≡_};
 ghost use Prim.Native.Nat.{ℕ, _/_, _%_, _≤_};
 ghost use mathlib.Core.List.{List, [], _++_};
 ghost use lib.ListN.{length, take, drop};
+ghost use Rattle.refusal.specs.Judgement.{unlessRefused};
 ghost use Rattle.netlist.specs.Live.{liveGates};
 ghost use Rattle.area.specs.Net.{netOf};
 ghost use Rattle.area.specs.Layout.{gates, outputs, needed, pattern, reliabilityWord, figure};
-ghost use Rattle.area.specs.Rules.{Sound, areaRefusal};
-ghost use Rattle.work.specs.Work.{workAll, toggleWords, setWords};
-ghost use Rattle.calls.specs.Judged.{openJudgement, toggleJudgement, setJudgement, gateJudgement, averageJudgement};
-ghost use Rattle.area.specs.Rules.{areaJudgement};
-ghost use Rattle.calls.specs.Calls.{leftBy, openWords, openLive, flipUnits, averageOf};
-ghost use Rattle.bench.specs.Loaded.{loadedJudgement, loadedWords};
+ghost use Rattle.area.specs.Rules.{NetSound, Workable};
+ghost use Rattle.calls.specs.Judgements as judged;
+ghost use Rattle.calls.specs.Judgements.{open-image, toggle-input, set-flip, read-netlist, read-gate, take-average, judgement};
+ghost use Rattle.calls.specs.Calls.{openLive, averageOf, left};
+ghost use Rattle.bench.specs.Loaded.{roomOf, loadedJudgement, loadedWords};
 ghost use Rattle.bench.specs.Answers.{opened, toggled, flipSet, gateRead, averaged, NetlistAnswer};
 use chance::FlipUnits;
-use image::Loaded;
-use average::WeightsJudged;
-use rules::Judged;
+use refusal::Judgement;
 
 // The answers: done with its result, or refused with number and place.
 pub enum Opened {
@@ -53,23 +51,6 @@ pub enum GateRead {
     Refused(u8, u32),
 }
 
-fn index(word: u32) -> usize
-    ensures { λ r. ⌜ r ≡ word ⌝ }
-{
-    word as usize
-}
-
-// Refusal 13 or 14 of the area, or 0.
-fn area_refusal(area: &[u32]) -> u8
-    ensures { λ r. ⌜ r ≡ areaRefusal (now (area .entry)) ⌝ }
-{
-    let judged = rules::judge(area);
-    match judged {
-        Judged::Sound => 0,
-        Judged::Refused(number) => number,
-    }
-}
-
 // Copies the first `count` words.
 fn copy_words(area: &mut [u32], words: &[u32], count: usize)
     requires { ⌜ (count ≤ length (now area)) × (count ≤ length (now words)) ⌝ }
@@ -82,126 +63,172 @@ fn copy_words(area: &mut [u32], words: &[u32], count: usize)
     }
 }
 
-// Refusals 9 and 13 of a loaded image; if neither applies its words go into the area, and every figure is worked out.
-fn open_loaded(area: &mut [u32], words: &[u32]) -> Opened
-    requires { ⌜ Sound (now words) ⌝ }
-    requires { ⌜ ((rest : List ℕ) → Sound (take (needed (gates (now words)) (outputs (now words))) (now words) ++ rest)) ⌝ }
-    ensures { λ r. ⌜ r ≡ opened (loadedJudgement (now (words .entry)) (length (now (area .entry)))) (liveGates (netOf (now (words .entry)) [] [])) ⌝ }
-    ensures { λ _. ⌜ now (area .exit) ≡ leftBy (loadedJudgement (now (words .entry)) (length (now (area .entry)))) (loadedWords (now (words .entry)) (now (area .entry))) (now (area .entry)) ⌝ }
+// Refusal 13 of a loaded netlist that has passed 9; if it does not apply its words go into the area, and every figure is worked out.
+fn open_fitting(area: &mut [u32], words: &[u32], live: u32) -> Opened
+    requires { ⌜ NetSound (now words) ⌝ }
+    requires { ⌜ ((rest : List ℕ) → Workable (take (needed (gates (now words)) (outputs (now words))) (now words) ++ rest)) ⌝ }
+    ensures { λ r. ⌜ r ≡ opened (roomOf (now (words .entry)) (length (now (area .entry)))) live ⌝ }
+    ensures { λ _. ⌜ now (area .exit) ≡ unlessRefused (roomOf (now (words .entry)) (length (now (area .entry))))
+        (loadedWords (now (words .entry)) (now (area .entry))) (now (area .entry)) ⌝ }
 {
-    let n = index(words[0]);
-    let g = index(words[1]);
-    let needed = 8 + 8 * g + index(words[2]);
-    let readers = live::count_readers(words);
-    let shared = live::first_shared(&readers, n, g);
-    if shared != g {
-        return Opened::Refused(9, shared as u32);
-    }
+    let needed = area::needed(area::gates(words), area::outputs(words));
     if area.len() < needed {
-        return Opened::Refused(13, 0);
+        return Opened::Refused(refusal::TOO_SHORT, 0);
     }
     copy_words(area, words, needed);
     work::work_all(area);
-    Opened::Done(live::live_gates(&readers, n, g))
+    Opened::Done(live)
+}
+
+// Refusals 9 and 13 of a loaded image, and the work.
+fn open_loaded(area: &mut [u32], words: &[u32]) -> Opened
+    requires { ⌜ NetSound (now words) ⌝ }
+    requires { ⌜ ((rest : List ℕ) → Workable (take (needed (gates (now words)) (outputs (now words))) (now words) ++ rest)) ⌝ }
+    ensures { λ r. ⌜ r ≡ opened (loadedJudgement (now (words .entry)) (length (now (area .entry)))) (liveGates (netOf (now (words .entry)) [] [])) ⌝ }
+    ensures { λ _. ⌜ now (area .exit) ≡ unlessRefused (loadedJudgement (now (words .entry)) (length (now (area .entry))))
+        (loadedWords (now (words .entry)) (now (area .entry))) (now (area .entry)) ⌝ }
+{
+    let inputs = area::inputs(words);
+    let gates = area::gates(words);
+    let readers = live::count_readers(words);
+    match live::judge_shared(&readers, inputs, gates) {
+        Judgement::Fine => open_fitting(area, words, live::live_gates(&readers, inputs, gates)),
+        Judgement::Refused(number, place) => Opened::Refused(number, place),
+    }
 }
 
 // Opens an image in the area: pattern 0. It answers the number of live gates.
 pub fn open(area: &mut [u32], image: &[u8]) -> Opened
-    ensures { λ r. ⌜ r ≡ opened (openJudgement (now (image .entry)) (length (now (area .entry)))) (openLive (now (image .entry))) ⌝ }
-    ensures { λ _. ⌜ now (area .exit) ≡ leftBy (openJudgement (now (image .entry)) (length (now (area .entry)))) (openWords (now (image .entry)) (now (area .entry))) (now (area .entry)) ⌝ }
+    ensures { λ r. ⌜ r ≡ opened (judgement (now (area .entry)) (open-image (now (image .entry)))) (openLive (now (image .entry))) ⌝ }
+    ensures { λ _. ⌜ now (area .exit) ≡ left (now (area .entry)) (open-image (now (image .entry))) ⌝ }
 {
-    let mut words = [0u32; 8264];
-    let loaded = image::load(image, &mut words);
-    match loaded {
-        Loaded::Refused(number, place) => Opened::Refused(number, place),
-        Loaded::Done => open_loaded(area, &words),
+    let mut words = [0u32; area::MOST_WORDS];
+    match image::load(image, &mut words) {
+        Judgement::Fine => open_loaded(area, &words),
+        Judgement::Refused(number, place) => Opened::Refused(number, place),
+    }
+}
+
+// Refusal 10: the number named, of so many.
+fn judge_named(number: u32, count: usize) -> Judgement
+    ensures { λ r. ⌜ r ≡ judged.named number count ⌝ }
+{
+    if area::index(number) < count {
+        Judgement::Fine
+    } else {
+        Judgement::Refused(refusal::NOT_THERE, number)
+    }
+}
+
+fn judge_toggle(area: &[u32], input: u32) -> Judgement
+    ensures { λ r. ⌜ r ≡ judgement (now (area .entry)) (toggle-input input) ⌝ }
+{
+    match rules::judge(area) {
+        Judgement::Fine => judge_named(input, area::inputs(area)),
+        Judgement::Refused(number, place) => Judgement::Refused(number, place),
+    }
+}
+
+fn judge_gate(area: &[u32], gate: u32) -> Judgement
+    ensures { λ r. ⌜ r ≡ judgement (now (area .entry)) (read-gate gate) ⌝ }
+{
+    match rules::judge(area) {
+        Judgement::Fine => judge_named(gate, area::gates(area)),
+        Judgement::Refused(number, place) => Judgement::Refused(number, place),
+    }
+}
+
+fn judge_average(area: &[u32], weights: &[u32]) -> Judgement
+    ensures { λ r. ⌜ r ≡ judgement (now (area .entry)) (take-average (now (weights .entry))) ⌝ }
+{
+    match rules::judge(area) {
+        Judgement::Fine => average::judge_weights(area::inputs(area), weights),
+        Judgement::Refused(number, place) => Judgement::Refused(number, place),
     }
 }
 
 // Toggles one input: works out again the gates that depend on it, and the reliability.
 pub fn toggle_input(area: &mut [u32], input: u32) -> Toggled
-    ensures { λ r. ⌜ r ≡ toggled (toggleJudgement (now (area .entry)) input) ⌝ }
-    ensures { λ _. ⌜ now (area .exit) ≡ leftBy (toggleJudgement (now (area .entry)) input) (toggleWords (now (area .entry)) input) (now (area .entry)) ⌝ }
+    ensures { λ r. ⌜ r ≡ toggled (judgement (now (area .entry)) (toggle-input input)) ⌝ }
+    ensures { λ _. ⌜ now (area .exit) ≡ left (now (area .entry)) (toggle-input input) ⌝ }
 {
-    let Refused = area_refusal(area);
-    if Refused != 0 {
-        return Toggled::Refused(Refused, 0);
+    match judge_toggle(area, input) {
+        Judgement::Fine => {
+            work::toggle(area, area::index(input));
+            Toggled::Done
+        }
+        Judgement::Refused(number, place) => Toggled::Refused(number, place),
     }
-    if area[0] <= input {
-        return Toggled::Refused(10, input);
+}
+
+// The gate exists: refusal 11, else the flip is set.
+fn set_known_flip(area: &mut [u32], gate: u32, kind: u8, field: [u8; 8]) -> FlipSet
+    requires { ⌜ judgement (now area) (read-gate gate) ≡ Judgement.Fine ⌝ }
+    ensures { λ r. ⌜ r ≡ flipSet (judged.flipJudgement gate kind field) ⌝ }
+    ensures { λ _. ⌜ now (area .exit) ≡ left (now (area .entry)) (set-flip gate kind field) ⌝ }
+{
+    match chance::read_units(kind, field) {
+        FlipUnits::Units(units) => {
+            work::set_units(area, area::index(gate), units);
+            FlipSet::Done
+        }
+        FlipUnits::Refused => FlipSet::Refused(refusal::CALL_FLIP, gate),
     }
-    work::toggle(area, input as usize);
-    Toggled::Done
 }
 
 // Sets one gate's flip: works out again that gate, those that depend on it, and the reliability.
 pub fn set_flip(area: &mut [u32], gate: u32, kind: u8, field: [u8; 8]) -> FlipSet
-    ensures { λ r. ⌜ r ≡ flipSet (setJudgement (now (area .entry)) gate kind field) ⌝ }
-    ensures { λ _. ⌜ now (area .exit) ≡ leftBy (setJudgement (now (area .entry)) gate kind field) (setWords (now (area .entry)) gate (flipUnits kind field)) (now (area .entry)) ⌝ }
+    ensures { λ r. ⌜ r ≡ flipSet (judgement (now (area .entry)) (set-flip gate kind field)) ⌝ }
+    ensures { λ _. ⌜ now (area .exit) ≡ left (now (area .entry)) (set-flip gate kind field) ⌝ }
 {
-    let Refused = area_refusal(area);
-    if Refused != 0 {
-        return FlipSet::Refused(Refused, 0);
-    }
-    if area[1] <= gate {
-        return FlipSet::Refused(10, gate);
-    }
-    let read = chance::read_units(kind, field);
-    match read {
-        FlipUnits::Units(units) => {
-            work::set_units(area, gate as usize, units);
-            FlipSet::Done
-        }
-        FlipUnits::Refused => FlipSet::Refused(11, gate),
+    match judge_gate(area, gate) {
+        Judgement::Fine => set_known_flip(area, gate, kind, field),
+        Judgement::Refused(number, place) => FlipSet::Refused(number, place),
     }
 }
 
 // Reads the pattern and the reliability, in units and as an f64. It writes nothing.
 pub fn read_netlist(area: &[u32]) -> NetlistRead
-    ensures { λ r. ⌜ NetlistAnswer (areaJudgement (now (area .entry))) (pattern (now (area .entry))) (reliabilityWord (now (area .entry))) r ⌝ }
+    ensures { λ r. ⌜ NetlistAnswer (judgement (now (area .entry)) read-netlist) (pattern (now (area .entry))) (reliabilityWord (now (area .entry))) r ⌝ }
 {
-    let Refused = area_refusal(area);
-    if Refused != 0 {
-        return NetlistRead::Refused(Refused, 0);
-    }
-    let units = area[4];
-    NetlistRead::Done {
-        pattern: area[3],
-        units,
-        reliability: chance::units_as_f64(units),
+    match rules::judge(area) {
+        Judgement::Fine => {
+            let units = area[area::RELIABILITY];
+            NetlistRead::Done {
+                pattern: area[area::PATTERN],
+                units,
+                reliability: chance::units_as_f64(units),
+            }
+        }
+        Judgement::Refused(number, place) => NetlistRead::Refused(number, place),
     }
 }
 
 // Reads one gate's right value and failure. It writes nothing.
 pub fn read_gate(area: &[u32], gate: u32) -> GateRead
-    ensures { λ r. ⌜ r ≡ gateRead (gateJudgement (now (area .entry)) gate) (figure (now (area .entry)) gate % 2) (figure (now (area .entry)) gate / 2) ⌝ }
+    ensures { λ r. ⌜ r ≡ gateRead (judgement (now (area .entry)) (read-gate gate)) (figure (now (area .entry)) gate % 2)
+        (figure (now (area .entry)) gate / 2) ⌝ }
 {
-    let Refused = area_refusal(area);
-    if Refused != 0 {
-        return GateRead::Refused(Refused, 0);
-    }
-    if area[1] <= gate {
-        return GateRead::Refused(10, gate);
-    }
-    let word = area[8 + 8 * (gate as usize) + 7];
-    GateRead::Done {
-        right: word % 2,
-        failure: word / 2,
+    match judge_gate(area, gate) {
+        Judgement::Fine => {
+            let word = area::figure(area, area::index(gate));
+            GateRead::Done {
+                right: word % 2,
+                failure: word / 2,
+            }
+        }
+        Judgement::Refused(number, place) => GateRead::Refused(number, place),
     }
 }
 
 // The weighted average of the reliability over all patterns, weight q for pattern q. It leaves the figures worked out afresh.
 pub fn average(area: &mut [u32], weights: &[u32]) -> Averaged
-    ensures { λ r. ⌜ r ≡ averaged (averageJudgement (now (area .entry)) (now (weights .entry))) (averageOf (now (area .entry)) (now (weights .entry))) ⌝ }
-    ensures { λ _. ⌜ now (area .exit) ≡ leftBy (averageJudgement (now (area .entry)) (now (weights .entry))) (workAll (now (area .entry))) (now (area .entry)) ⌝ }
+    ensures { λ r. ⌜ r ≡ averaged (judgement (now (area .entry)) (take-average (now (weights .entry))))
+        (averageOf (now (area .entry)) (now (weights .entry))) ⌝ }
+    ensures { λ _. ⌜ now (area .exit) ≡ left (now (area .entry)) (take-average (now (weights .entry))) ⌝ }
 {
-    let Refused = area_refusal(area);
-    if Refused != 0 {
-        return Averaged::Refused(Refused, 0);
-    }
-    let judged = average::judge_weights(index(area[0]), weights);
-    match judged {
-        WeightsJudged::Refused(place) => Averaged::Refused(12, place),
-        WeightsJudged::Fine => Averaged::Done(average::average(area, weights)),
+    match judge_average(area, weights) {
+        Judgement::Fine => Averaged::Done(average::average(area, weights)),
+        Judgement::Refused(number, place) => Averaged::Refused(number, place),
     }
 }

@@ -18,11 +18,6 @@ abbrev pub code : Judgement → ℕ
 code Fine = 0
 code (Refused number place) = refusalCode number place
 
--- the result, or what the out-parameter held where the call is refused
-abbrev pub outBy : Judgement → ℕ → ℕ → ℕ
-outBy Fine result stood = result
-outBy (Refused number place) result stood = stood
-
 -- a float whose value is exactly units / U, or the one that the out-parameter held
 abbrev pub FloatBy : Judgement → ℕ → Float → Float → Type 0
 FloatBy Fine units stood left = HasValue left false units unitsInOne

@@ -1,13 +1,11 @@
 // The six calls of the bench for C. Each answers 0 where the work was done, else number × 2^32 + place, and then leaves what its pointers name as it was.
 ghost use mathlib.Core.Path.{_≡_};
 ghost use Prim.Native.Nat.{_/_, _%_};
-ghost use lib.ListN.{length};
+ghost use Rattle.refusal.specs.Judgement.{unlessRefused};
 ghost use Rattle.area.specs.Layout.{pattern as patternWord, reliabilityWord, figure};
-ghost use Rattle.work.specs.Work.{workAll, toggleWords, setWords};
-ghost use Rattle.calls.specs.Judged.{openJudgement, toggleJudgement, setJudgement, gateJudgement, averageJudgement};
-ghost use Rattle.area.specs.Rules.{areaJudgement};
-ghost use Rattle.calls.specs.Calls.{leftBy, openWords, openLive, flipUnits, averageOf};
-ghost use Rattle.bench_c.specs.Codes.{refusalCode, code, outBy, fieldBytes, FloatBy};
+ghost use Rattle.calls.specs.Judgements.{open-image, toggle-input, set-flip, read-netlist, read-gate, take-average, judgement};
+ghost use Rattle.calls.specs.Calls.{openLive, averageOf, left};
+ghost use Rattle.bench_c.specs.Codes.{refusalCode, code, fieldBytes, FloatBy};
 use bench::Averaged;
 use bench::FlipSet;
 use bench::GateRead;
@@ -25,9 +23,10 @@ fn refused(number: u8, place: u32) -> u64
 // Opens an image; the number of live gates goes to `live`.
 #[no_mangle]
 pub extern "C" fn bench_open(area: &mut [u32], image: &[u8], live: &mut u32) -> u64
-    ensures { λ r. ⌜ r ≡ code (openJudgement (now (image .entry)) (length (now (area .entry)))) ⌝ }
-    ensures { λ _. ⌜ now (live .exit) ≡ outBy (openJudgement (now (image .entry)) (length (now (area .entry)))) (openLive (now (image .entry))) (now (live .entry)) ⌝ }
-    ensures { λ _. ⌜ now (area .exit) ≡ leftBy (openJudgement (now (image .entry)) (length (now (area .entry)))) (openWords (now (image .entry)) (now (area .entry))) (now (area .entry)) ⌝ }
+    ensures { λ r. ⌜ r ≡ code (judgement (now (area .entry)) (open-image (now (image .entry)))) ⌝ }
+    ensures { λ _. ⌜ now (live .exit) ≡ unlessRefused (judgement (now (area .entry)) (open-image (now (image .entry))))
+        (openLive (now (image .entry))) (now (live .entry)) ⌝ }
+    ensures { λ _. ⌜ now (area .exit) ≡ left (now (area .entry)) (open-image (now (image .entry))) ⌝ }
 {
     let answer = bench::open(area, image);
     match answer {
@@ -42,8 +41,8 @@ pub extern "C" fn bench_open(area: &mut [u32], image: &[u8], live: &mut u32) -> 
 // Toggles one input.
 #[no_mangle]
 pub extern "C" fn bench_toggle_input(area: &mut [u32], input: u32) -> u64
-    ensures { λ r. ⌜ r ≡ code (toggleJudgement (now (area .entry)) input) ⌝ }
-    ensures { λ _. ⌜ now (area .exit) ≡ leftBy (toggleJudgement (now (area .entry)) input) (toggleWords (now (area .entry)) input) (now (area .entry)) ⌝ }
+    ensures { λ r. ⌜ r ≡ code (judgement (now (area .entry)) (toggle-input input)) ⌝ }
+    ensures { λ _. ⌜ now (area .exit) ≡ left (now (area .entry)) (toggle-input input) ⌝ }
 {
     let answer = bench::toggle_input(area, input);
     match answer {
@@ -62,8 +61,8 @@ fn low_byte(x: u64) -> u8
 // Sets one gate's flip. C passes no array by value, so the eight bytes of the field come as one little-endian number.
 #[no_mangle]
 pub extern "C" fn bench_set_flip(area: &mut [u32], gate: u32, kind: u8, field: u64) -> u64
-    ensures { λ r. ⌜ r ≡ code (setJudgement (now (area .entry)) gate kind (fieldBytes field)) ⌝ }
-    ensures { λ _. ⌜ now (area .exit) ≡ leftBy (setJudgement (now (area .entry)) gate kind (fieldBytes field)) (setWords (now (area .entry)) gate (flipUnits kind (fieldBytes field))) (now (area .entry)) ⌝ }
+    ensures { λ r. ⌜ r ≡ code (judgement (now (area .entry)) (set-flip gate kind (fieldBytes field))) ⌝ }
+    ensures { λ _. ⌜ now (area .exit) ≡ left (now (area .entry)) (set-flip gate kind (fieldBytes field)) ⌝ }
 {
     let b0 = low_byte(field);
     let b1 = low_byte(field / 256);
@@ -88,10 +87,13 @@ pub extern "C" fn bench_read_netlist(
     units: &mut u32,
     reliability: &mut f64,
 ) -> u64
-    ensures { λ r. ⌜ r ≡ code (areaJudgement (now (area .entry))) ⌝ }
-    ensures { λ _. ⌜ now (pattern .exit) ≡ outBy (areaJudgement (now (area .entry))) (patternWord (now (area .entry))) (now (pattern .entry)) ⌝ }
-    ensures { λ _. ⌜ now (units .exit) ≡ outBy (areaJudgement (now (area .entry))) (reliabilityWord (now (area .entry))) (now (units .entry)) ⌝ }
-    ensures { λ _. ⌜ FloatBy (areaJudgement (now (area .entry))) (reliabilityWord (now (area .entry))) (now (reliability .entry)) (now (reliability .exit)) ⌝ }
+    ensures { λ r. ⌜ r ≡ code (judgement (now (area .entry)) read-netlist) ⌝ }
+    ensures { λ _. ⌜ now (pattern .exit) ≡ unlessRefused (judgement (now (area .entry)) read-netlist) (patternWord (now (area .entry)))
+        (now (pattern .entry)) ⌝ }
+    ensures { λ _. ⌜ now (units .exit) ≡ unlessRefused (judgement (now (area .entry)) read-netlist) (reliabilityWord (now (area .entry)))
+        (now (units .entry)) ⌝ }
+    ensures { λ _. ⌜ FloatBy (judgement (now (area .entry)) read-netlist) (reliabilityWord (now (area .entry))) (now (reliability .entry))
+        (now (reliability .exit)) ⌝ }
 {
     let answer = bench::read_netlist(area);
     match answer {
@@ -117,9 +119,11 @@ pub extern "C" fn bench_read_gate(
     right: &mut u32,
     failure: &mut u32,
 ) -> u64
-    ensures { λ r. ⌜ r ≡ code (gateJudgement (now (area .entry)) gate) ⌝ }
-    ensures { λ _. ⌜ now (right .exit) ≡ outBy (gateJudgement (now (area .entry)) gate) (figure (now (area .entry)) gate % 2) (now (right .entry)) ⌝ }
-    ensures { λ _. ⌜ now (failure .exit) ≡ outBy (gateJudgement (now (area .entry)) gate) (figure (now (area .entry)) gate / 2) (now (failure .entry)) ⌝ }
+    ensures { λ r. ⌜ r ≡ code (judgement (now (area .entry)) (read-gate gate)) ⌝ }
+    ensures { λ _. ⌜ now (right .exit) ≡ unlessRefused (judgement (now (area .entry)) (read-gate gate)) (figure (now (area .entry)) gate % 2)
+        (now (right .entry)) ⌝ }
+    ensures { λ _. ⌜ now (failure .exit) ≡ unlessRefused (judgement (now (area .entry)) (read-gate gate)) (figure (now (area .entry)) gate / 2)
+        (now (failure .entry)) ⌝ }
 {
     let answer = bench::read_gate(area, gate);
     match answer {
@@ -138,9 +142,10 @@ pub extern "C" fn bench_read_gate(
 // The weighted average goes to `units`.
 #[no_mangle]
 pub extern "C" fn bench_average(area: &mut [u32], weights: &[u32], units: &mut u32) -> u64
-    ensures { λ r. ⌜ r ≡ code (averageJudgement (now (area .entry)) (now (weights .entry))) ⌝ }
-    ensures { λ _. ⌜ now (units .exit) ≡ outBy (averageJudgement (now (area .entry)) (now (weights .entry))) (averageOf (now (area .entry)) (now (weights .entry))) (now (units .entry)) ⌝ }
-    ensures { λ _. ⌜ now (area .exit) ≡ leftBy (averageJudgement (now (area .entry)) (now (weights .entry))) (workAll (now (area .entry))) (now (area .entry)) ⌝ }
+    ensures { λ r. ⌜ r ≡ code (judgement (now (area .entry)) (take-average (now (weights .entry)))) ⌝ }
+    ensures { λ _. ⌜ now (units .exit) ≡ unlessRefused (judgement (now (area .entry)) (take-average (now (weights .entry))))
+        (averageOf (now (area .entry)) (now (weights .entry))) (now (units .entry)) ⌝ }
+    ensures { λ _. ⌜ now (area .exit) ≡ left (now (area .entry)) (take-average (now (weights .entry))) ⌝ }
 {
     let answer = bench::average(area, weights);
     match answer {

@@ -1,28 +1,34 @@
 -- The words of an area agree with a book; and where they do, word 4 is within the bound. Assumes nothing.
 use Prim.Native.Nat.{ℕ, _≤_, _<_}
+use mathlib.Core.Bool.{Bool}
 use mathlib.Core.List.{List}
-use mathlib.Core.Path.{_≡_, sym, ap, ap₂, subst, _∙_}
+use mathlib.Core.Path.{_≡_, sym, ap, subst, _∙_}
 use native.Mathlib.Omega.{arith}
 use lib.ListN.{length, getD}
 use lib.Pow.{pow-pos}
+use borrow.Author.Tests.{le-leb}
 use Rattle.rounding.specs.Rounding.{unitsInOne}
 use Rattle.chance.specs.Number.{chanceScale}
 use Rattle.netlist.specs.Netlist.{Netlist}
 use Rattle.netlist.specs.WellFormed.{WellFormed}
-use Rattle.netlist.specs.Figures.{reliability}
 use Rattle.netlist.specs.Live.{SingleReaders}
 use Rattle.bound.proofs.Average.{reliability-bound}
-use Rattle.area.specs.Layout.{inputs, gates, pattern, reliabilityWord}
-use Rattle.area.specs.Rules.{Sound}
+use Rattle.area.specs.Layout.{inputs, gates, pattern, needed, outputs}
+use Rattle.area.specs.Rules.{Sound, NetSound, roomJudgement}
 use Rattle.area.specs.Net.{netOf}
 use Rattle.area.proofs.Net.{sound-net, gate-count}
 use Rattle.fresh.specs.Fresh.{Fresh, Converted}
-use Rattle.fresh.proofs.Bridge.{reliability-holds}
 use Rattle.book.specs.Book.{Book}
-use Rattle.book.specs.Statement.{WithinBound}
+use Rattle.book.specs.Statement.{WithinBound, Current}
+use Rattle.refusal.specs.declared.Judgement.the-variants.{Fine}
+use Rattle.refusal.specs.Judgement.{refuseUnless}
+use Rattle.fresh.specs.Statements.{FiguresHeld}
+use Rattle.fresh.proofs.Statements.{fresh-holds-netlist}
+use Rattle.area.proofs.Words.{output-count}
 
--- beside the kinds and chances, which the words do not hold, the words have the book's netlist and pattern, and its figures are worked out
-pub record Agree (ws : List ℕ) (b : Book) : Type 0 where
+-- the area has `size` words; beside the kinds and chances, which they do not hold, they have the book's netlist and pattern, and its figures are worked out
+pub record Agree (size : ℕ) (ws : List ℕ) (b : Book) : Type 0 where
+  pub long : length ws ≡ size
   pub kinds : List ℕ
   pub chances : List ℕ
   pub kind-each : gates ws ≤ length kinds
@@ -39,22 +45,40 @@ pub chance-scale-positive : 0 < chanceScale
 unfolding chanceScale
 chance-scale-positive = pow-pos 1074
 
-module _ (ws : List ℕ) (b : Book) (agree : Agree ws b) where
+module _ (size : ℕ) (ws : List ℕ) (b : Book) (agree : Agree size ws b) where
+  net : NetSound ws
+  net = agree .sound .workable .net
+
   pub same-input-count : inputs ws ≡ b .net .inputs
-  same-input-count = ap (λ (net : Netlist). net .inputs) (agree .held)
+  same-input-count = ap (λ (held : Netlist). held .inputs) (agree .held)
 
   pub same-gate-count : gates ws ≡ length (b .net .gates)
-  same-gate-count = sym (gate-count ws (agree .kinds) (agree .chances)) ∙ ap (λ (net : Netlist). length (net .gates)) (agree .held)
+  same-gate-count = sym (gate-count ws (agree .kinds) (agree .chances)) ∙ ap (λ (held : Netlist). length (held .gates)) (agree .held)
+
+  same-output-count : outputs ws ≡ length (b .net .outputs)
+  same-output-count = sym (output-count ws net) ∙ ap (λ (held : Netlist). length (held .outputs)) (agree .held)
+
+  -- the area has room for the book's netlist
+  pub room : roomJudgement (length (b .net .gates)) (length (b .net .outputs)) size ≡ Fine
+  room =
+      let fits : needed (length (b .net .gates)) (length (b .net .outputs)) ≤ size
+      = omega (arith, net .long, same-gate-count, same-output-count, agree .long) in
+      ap (λ (c : Bool). refuseUnless c 13 0) (le-leb _ _ fits)
 
   pub well-formed : WellFormed chanceScale (b .net)
-  well-formed = subst (WellFormed chanceScale) (agree .held) (sound-net chanceScale ws (agree .kinds) (agree .chances) (agree .sound) (agree .chances-fit))
+  well-formed = subst (WellFormed chanceScale) (agree .held) (sound-net chanceScale ws (agree .kinds) (agree .chances) net (agree .chances-fit))
 
-  pub word-4 : reliabilityWord ws ≡ reliability unitsInOne chanceScale (b .net) (b .pattern)
-  word-4 =
-      reliability-holds chanceScale ws (agree .kinds) (agree .chances) (agree .sound) (agree .fresh) (agree .converted)
-      ∙ ap₂ (reliability unitsInOne chanceScale) (agree .held) (agree .same-pattern)
+  pub figures-held : FiguresHeld chanceScale (b .net) (b .pattern) ws
+  figures-held =
+      subst (λ (q : ℕ). FiguresHeld chanceScale (b .net) q ws) (agree .same-pattern)
+      (subst (λ (held : Netlist). FiguresHeld chanceScale held (pattern ws) ws) (agree .held)
+      (fresh-holds-netlist chanceScale ws (agree .kinds) (agree .chances) (agree .sound) (agree .fresh) (agree .converted)))
 
-  pub within-bound : WithinBound (reliabilityWord ws) b
-  within-bound =
-      subst (λ (units : ℕ). WithinBound units b) (sym word-4)
-      (reliability-bound unitsInOne chanceScale (omega arith) chance-scale-positive (b .net) well-formed (agree .single) (b .pattern))
+  pub current : Current ws b
+  current =
+      record {
+        within =
+            subst (λ (units : ℕ). WithinBound units b) (sym (figures-held .product))
+            (reliability-bound unitsInOne chanceScale (omega arith) chance-scale-positive (b .net) well-formed (agree .single) (b .pattern));
+        figures = figures-held;
+      }

@@ -6,8 +6,7 @@ use mathlib.Core.Logic.{by-cases}
 use mathlib.Core.Path.{_≡_, refl, sym, ap, subst, _∙_}
 use native.Mathlib.Decide.{ℕ-discrete}
 use native.Mathlib.Omega.{arith}
-use lib.Dec.{ltb}
-use lib.ListN.{length, getD, set, length-set}
+use lib.ListN.{getD, set, length-set}
 use lib.Seq.{getD-set-same, getD-set-other}
 use Rattle.chance.specs.Number.{chanceScale}
 use Rattle.chance.specs.Flip.{flipAccepted, flipChance}
@@ -22,63 +21,62 @@ use Rattle.area.specs.Net.{netOf}
 use Rattle.area.proofs.Net.{same-single-readers}
 use Rattle.fresh.proofs.Calls.{toggle-net, toggle-pattern, toggle-fresh, toggle-converted, set-net, set-pattern, set-fresh, set-converted}
 use Rattle.fresh.proofs.Unique.{fresh-fixed}
-use Rattle.refusal.specs.Judgement.{otherwise}
-use Rattle.refusal.proofs.Laws.{unless-fine, otherwise-fine}
-use Rattle.calls.specs.Judged.{named, flipJudgement, weightsJudgement, toggleJudgement, setJudgement, gateJudgement, averageJudgement}
-use Rattle.calls.specs.Calls.{open-image, toggle-input, set-flip, read-netlist, read-gate, take-average, flipUnits}
-use Rattle.book.specs.Book.{Book, withFlip, entered}
-use Rattle.book.proofs.Agree.{Agree, same-input-count, same-gate-count}
-use Rattle.book.proofs.Judged.{area-fine, area-passes, named-below, never-unless, never-open, never-weights}
-use Rattle.refusal.proofs.Laws.{never-fine, never-otherwise}
-use Rattle.book.proofs.Shown.{Shown}
+use Rattle.calls.specs.Judgements.{open-image, toggle-input, set-flip, read-netlist, read-gate, take-average}
+use Rattle.chance.specs.Flip.{flipUnits}
+use Rattle.calls.specs.Calls.{openWords, work}
+use Rattle.book.specs.Book.{Book, withFlip, entered, imageBook}
+use Rattle.book.proofs.Agree.{Agree}
+use Rattle.book.proofs.Shown.{Shown, Lent, shown-lent}
 use Rattle.book.proofs.Flip.{flip-net}
 use Rattle.book.proofs.Average.{average-within}
 use Rattle.book.proofs.Open.{opened}
+use Rattle.book.specs.Statement.{AnswerKept}
+use Rattle.calls.specs.Judgements.{Call, argumentJudgement, openJudgement}
+use Rattle.calls.proofs.Judgements.{named-fine, only-open, set-fine, weights-fine}
 
 pub shown-open : (bs : List ℕ) → Shown (open-image bs)
 shown-open bs =
     record {
-      judged = λ ws b agree. refl;
-      never = λ b size. never-open bs size;
-      agrees = λ ws b agree e. opened bs ws e;
-      answers = λ ws b agree e. tt;
+      judged = λ size ws b agree. ap (openJudgement bs) (agree .long);
+      only = λ b size. only-open bs size;
+      agrees =
+          λ size ws b agree e.
+          subst (λ (n : ℕ). Agree n (openWords bs ws) (imageBook bs)) (agree .long) (opened bs ws (ap (openJudgement bs) (agree .long) ∙ e));
+      answers = λ size ws b agree e. tt;
     }
 
 -- ---- toggling an input
 
-toggled : (i : ℕ) (ws : List ℕ) (b : Book) → Agree ws b → i < inputs ws → Agree (toggleWords ws i) (entered b (toggle-input i))
-toggled i ws b agree l =
+toggled : (i : ℕ) (size : ℕ) (ws : List ℕ) (b : Book) → Agree size ws b → i < inputs ws → Agree size (toggleWords ws i) (entered b (toggle-input i))
+toggled i size ws b agree l =
     let count : gates (toggleWords ws i) ≡ gates ws = same-gates ws (toggleWords ws i) (same-toggle ws i) in
     record {
+      long = same-toggle ws i .size ∙ agree .long;
       kinds = agree .kinds;
       chances = agree .chances;
       kind-each = omega (arith, agree .kind-each);
       chance-each = omega (arith, agree .chance-each);
       sound = sound-toggle ws i (agree .sound) l;
-      fresh = toggle-fresh ws i (agree .sound) (agree .fresh) l;
+      fresh = toggle-fresh ws i (agree .sound .workable .net) (agree .fresh) l;
       held = toggle-net ws i (agree .kinds) (agree .chances) ∙ agree .held;
       converted = toggle-converted chanceScale ws (agree .chances) i (agree .converted);
       chances-fit = λ j k. agree .chances-fit j (omega arith);
-      same-pattern = toggle-pattern ws i (agree .sound) ∙ ap (λ (q : ℕ). invertBit q i) (agree .same-pattern);
+      same-pattern = toggle-pattern ws i (agree .sound .workable .net) ∙ ap (λ (q : ℕ). invertBit q i) (agree .same-pattern);
       single = agree .single;
     }
 
 pub shown-toggle : (i : ℕ) → Shown (toggle-input i)
-unfolding toggleJudgement
+unfolding argumentJudgement
 shown-toggle i =
-    record {
-      judged = λ ws b agree. area-passes ws (named i (inputs ws)) (agree .sound) ∙ ap (named i) (same-input-count ws b agree);
-      never = λ b size. never-unless 14 (ltb i (b .net .inputs)) 10 i (λ e. omega arith);
-      agrees = λ ws b agree e. toggled i ws b agree (omega (arith, named-below i (b .net .inputs) e, same-input-count ws b agree));
-      answers = λ ws b agree e. tt;
-    }
+    shown-lent (toggle-input i) (λ ws. refl) (λ b size. refl)
+    (record { agrees = λ size ws b agree e. toggled i size ws b agree (named-fine i (inputs ws) e); answers = λ size ws b agree e. tt })
 
 -- ---- setting a flip
 
-flip-set : (g kind : ℕ) (field : List ℕ) (ws : List ℕ) (b : Book) → Agree ws b → g < gates ws → flipAccepted kind field ≡ true
-    → Agree (setWords ws g (flipUnits kind field)) (entered b (set-flip g kind field))
+flip-set : (g kind : ℕ) (field : List ℕ) (size : ℕ) (ws : List ℕ) (b : Book) → Agree size ws b → g < gates ws → flipAccepted kind field ≡ true
+    → Agree size (setWords ws g (flipUnits kind field)) (entered b (set-flip g kind field))
 unfolding flipUnits
-flip-set g kind field ws b agree l accepted =
+flip-set g kind field size ws b agree l accepted =
     let units = flipUnits kind field in
     let chance = flipChance kind field in
     let after = setWords ws g units in
@@ -92,14 +90,15 @@ flip-set g kind field ws b agree l accepted =
     = flip-net ws (agree .kinds) (agree .chances) g kind chance l kind-each chance-each
     ∙ ap (λ (net : Netlist). withFlip net g kind chance) (agree .held) in
     record {
+      long = same-set ws g units l .size ∙ agree .long;
       kinds = kinds;
       chances = chances;
       kind-each = omega (arith, length-set (agree .kinds) g kind);
       chance-each = omega (arith, length-set (agree .chances) g chance);
       sound = sound-set ws g units (agree .sound) l fits;
-      fresh = set-fresh ws g units l (agree .sound) (agree .fresh) fits;
+      fresh = set-fresh ws g units l (agree .sound .workable .net) (agree .fresh);
       held = set-net ws g units l kinds chances ∙ entry;
-      converted = set-converted chanceScale ws (agree .chances) g chance (agree .sound) l (omega arith) (agree .converted);
+      converted = set-converted chanceScale ws (agree .chances) g chance (agree .sound .workable .net) l (omega arith) (agree .converted);
       chances-fit =
           λ j k.
           by-cases (ℕ-discrete j g)
@@ -115,59 +114,39 @@ flip-set g kind field ws b agree l accepted =
     }
 
 pub shown-set : (g kind : ℕ) (field : List ℕ) → Shown (set-flip g kind field)
-unfolding setJudgement
 shown-set g kind field =
-    record {
-      judged =
-          λ ws b agree.
-          area-passes ws (otherwise (named g (gates ws)) (flipJudgement g kind field)) (agree .sound)
-          ∙ ap (λ (count : ℕ). otherwise (named g count) (flipJudgement g kind field)) (same-gate-count ws b agree);
-      never =
-          λ b size.
-          never-otherwise 14 (named g (length (b .net .gates))) (flipJudgement g kind field)
-          (never-unless 14 (ltb g (length (b .net .gates))) 10 g (λ e. omega arith))
-          (never-unless 14 (flipAccepted kind field) 11 g (λ e. omega arith));
+    shown-lent (set-flip g kind field) (λ ws. refl) (λ b size. refl)
+    (record {
       agrees =
-          λ ws b agree e.
-          let both = otherwise-fine (named g (length (b .net .gates))) (flipJudgement g kind field) e in
-          flip-set g kind field ws b agree
-          (omega (arith, named-below g (length (b .net .gates)) (both .0), same-gate-count ws b agree))
-          (unless-fine (flipAccepted kind field) 11 g (both .1));
-      answers = λ ws b agree e. tt;
-    }
+          λ size ws b agree e.
+          let both = set-fine (inputs ws) (gates ws) g kind field e in
+          flip-set g kind field size ws b agree (both .0) (both .1);
+      answers = λ size ws b agree e. tt;
+    })
 
 -- ---- reads
 
-pub shown-read : Shown read-netlist
-shown-read =
+untouched : {call : Call} → ((ws : List ℕ) (b : Book) → (work ws call ≡ ws) × (entered b call ≡ b)) → ((ws : List ℕ) (b : Book) → AnswerKept ws b call) → Lent call
+untouched same answer =
     record {
-      judged = λ ws b agree. area-fine ws (agree .sound);
-      never = λ b size. never-fine 14;
-      agrees = λ ws b agree e. agree;
-      answers = λ ws b agree e. tt;
+      agrees = λ size ws b agree e. let s = same ws b in rw (s .0, s .1) agree;
+      answers = λ size ws b agree e. answer ws b;
     }
 
+pub shown-read : Shown read-netlist
+shown-read = shown-lent read-netlist (λ ws. refl) (λ b size. refl) (untouched (λ ws b. (refl, refl)) (λ ws b. tt))
+
 pub shown-read-gate : (g : ℕ) → Shown (read-gate g)
-unfolding gateJudgement
-shown-read-gate g =
-    record {
-      judged = λ ws b agree. area-passes ws (named g (gates ws)) (agree .sound) ∙ ap (named g) (same-gate-count ws b agree);
-      never = λ b size. never-unless 14 (ltb g (length (b .net .gates))) 10 g (λ e. omega arith);
-      agrees = λ ws b agree e. agree;
-      answers = λ ws b agree e. tt;
-    }
+shown-read-gate g = shown-lent (read-gate g) (λ ws. refl) (λ b size. refl) (untouched (λ ws b. (refl, refl)) (λ ws b. tt))
 
 -- ---- the average: the figure words were worked out before it, and are again
 
 pub shown-average : (weights : List ℕ) → Shown (take-average weights)
-unfolding averageJudgement
+unfolding argumentJudgement
 shown-average weights =
-    record {
-      judged =
-          λ ws b agree.
-          area-passes ws (weightsJudgement (inputs ws) weights) (agree .sound)
-          ∙ ap (λ (n : ℕ). weightsJudgement n weights) (same-input-count ws b agree);
-      never = λ b size. never-weights (b .net .inputs) weights;
-      agrees = λ ws b agree e. subst (λ (vs : List ℕ). Agree vs b) (sym (fresh-fixed ws (agree .sound) (agree .fresh))) agree;
-      answers = λ ws b agree e. average-within ws b agree weights e;
-    }
+    shown-lent (take-average weights) (λ ws. refl) (λ b size. refl)
+    (record {
+      agrees =
+          λ size ws b agree e. subst (λ (vs : List ℕ). Agree size vs b) (sym (fresh-fixed ws (agree .sound .workable .net) (agree .fresh))) agree;
+      answers = λ size ws b agree e. average-within size ws b agree weights (weights-fine (inputs ws) weights e);
+    })

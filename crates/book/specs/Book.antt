@@ -3,35 +3,37 @@
 use Prim.Native.Nat.{ℕ}
 use mathlib.Core.List.{List}
 use lib.ListN.{length, set}
+use Rattle.refusal.specs.declared.Judgement.{Judgement}
+use Rattle.refusal.specs.Judgement.{otherwise, unlessRefused}
 use Rattle.chance.specs.Flip.{flipChance}
 use Rattle.netlist.specs.Netlist.{Gate, Netlist, gateAt}
+use Rattle.area.specs.Rules.{roomJudgement}
 use Rattle.work.specs.Work.{invertBit}
-use Rattle.refusal.specs.declared.Judgement.{Judgement}
-use Rattle.refusal.specs.declared.Judgement.the-variants.{Fine, Refused}
-use Rattle.refusal.specs.Judgement.{otherwise}
 use Rattle.image.specs.Netlist.{imageNet}
-use Rattle.calls.specs.Judged.{named, flipJudgement, weightsJudgement, openJudgement}
-use Rattle.calls.specs.Calls.{Call, open-image, toggle-input, set-flip, read-netlist, read-gate, take-average}
+use Rattle.calls.specs.Judgements.{Call, open-image, toggle-input, set-flip, read-netlist, read-gate, take-average, openJudgement, argumentJudgement}
 
 -- a netlist, whose gates have their flip kind and their chance before conversion, and a pattern
 pub record Book : Type 0 where
   pub net : Netlist
   pub pattern : ℕ
 
--- ---- what an image enters: its netlist, kinds and chances, and pattern 0
-
+-- what an image enters: its netlist, kinds and chances, and pattern 0
 abbrev pub imageBook : List ℕ → Book
 imageBook bs = record { net = imageNet bs; pattern = 0 }
 
--- ---- which refusal a call gets: by the image and the area's length at opening, by the book elsewhere, where 13 and 14 have no place
+-- ---- which refusal a call gets, for an area of `size` words: at opening by the image; elsewhere 13 by the book's counts, then 10, 11, 12
+
+unfoldable pub heldJudgement : Book → ℕ → Call → Judgement
+heldJudgement b size call =
+    otherwise (roomJudgement (length (b .net .gates)) (length (b .net .outputs)) size) (argumentJudgement (b .net .inputs) (length (b .net .gates)) call)
 
 abbrev pub bookJudgement : Book → ℕ → Call → Judgement
 bookJudgement b size (open-image bs) = openJudgement bs size
-bookJudgement b size (toggle-input i) = named i (b .net .inputs)
-bookJudgement b size (set-flip g kind field) = otherwise (named g (length (b .net .gates))) (flipJudgement g kind field)
-bookJudgement b size read-netlist = Fine
-bookJudgement b size (read-gate g) = named g (length (b .net .gates))
-bookJudgement b size (take-average weights) = weightsJudgement (b .net .inputs) weights
+bookJudgement b size (toggle-input i) = heldJudgement b size (toggle-input i)
+bookJudgement b size (set-flip g kind field) = heldJudgement b size (set-flip g kind field)
+bookJudgement b size read-netlist = heldJudgement b size read-netlist
+bookJudgement b size (read-gate g) = heldJudgement b size (read-gate g)
+bookJudgement b size (take-average weights) = heldJudgement b size (take-average weights)
 
 -- ---- what a call enters
 
@@ -52,9 +54,5 @@ entered b (read-gate g) = b
 entered b (take-average weights) = b
 
 -- a refused call enters nothing
-abbrev pub unlessRefused : Judgement → Book → Book → Book
-unlessRefused Fine new old = new
-unlessRefused (Refused number place) new old = old
-
 abbrev pub bookStep : Book → ℕ → Call → Book
 bookStep b size call = unlessRefused (bookJudgement b size call) (entered b call) b

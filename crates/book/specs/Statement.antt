@@ -4,6 +4,7 @@ use mathlib.Core.List.{List, [], _∷_}
 use mathlib.Core.Logic.{_≢_}
 use mathlib.Core.Path.{_≡_}
 use lib.ListN.{length, getD}
+use Rattle.refusal.specs.declared.Judgement.the-variants.{Fine, Refused}
 use Rattle.rounding.specs.Rounding.{unitsInOne, Near}
 use Rattle.chance.specs.Number.{chanceScale}
 use Rattle.netlist.specs.Live.{liveGates}
@@ -11,10 +12,10 @@ use Rattle.netlist.specs.Exact.{exactSum}
 use Rattle.netlist.specs.Average.{totalWeight, exactAverageSum}
 use Rattle.bound.specs.Statements.{denominator}
 use Rattle.area.specs.Layout.{gates, outputs, reliabilityWord, needed}
-use Rattle.refusal.specs.declared.Judgement.the-variants.{Fine, Refused}
+use Rattle.fresh.specs.Statements.{FiguresHeld}
 use Rattle.image.specs.Image.{imageGates, imageOutputs}
-use Rattle.calls.specs.Judged.{openJudgement}
-use Rattle.calls.specs.Calls.{Call, open-image, toggle-input, set-flip, read-netlist, read-gate, take-average, openWords, averageOf, judgement, left}
+use Rattle.calls.specs.Judgements.{Call, open-image, toggle-input, set-flip, read-netlist, read-gate, take-average, openJudgement, judgement}
+use Rattle.calls.specs.Calls.{openWords, averageOf, left}
 use Rattle.book.specs.Book.{Book, imageBook, bookJudgement, bookStep}
 
 -- so many units differ from U × the exact sum for the book's pattern by at most 1.5 × L: twice that, times the exact sum's denominator
@@ -33,6 +34,12 @@ AverageWithin units weights b =
     (2 * (units * totalWeight (b .net) weights * denominator chanceScale (b .net)))
     (2 * (unitsInOne * exactAverageSum chanceScale (b .net) weights))
 
+-- what holds of an area's words between calls: word 4 is within the bound, and the right values, the failures and the reliability
+-- held are those of the book's netlist for the book's pattern
+pub record Current (ws : List ℕ) (b : Book) : Type 0 where
+  pub within : WithinBound (reliabilityWord ws) b
+  pub figures : FiguresHeld chanceScale (b .net) (b .pattern) ws
+
 -- what is promised of the answer of a call that is not refused, by the book at that call
 abbrev pub AnswerKept : List ℕ → Book → Call → Type 0
 AnswerKept ws b (open-image bs) = Unit {0}
@@ -43,21 +50,22 @@ AnswerKept ws b (read-gate g) = Unit {0}
 AnswerKept ws b (take-average weights) = AverageWithin (averageOf ws weights) weights b
 
 -- a call is refused exactly where the book says, with that number and place, and never with 14
-pub record CallKept (ws : List ℕ) (b : Book) (call : Call) : Type 0 where
-  pub judged : judgement ws call ≡ bookJudgement b (length ws) call
+pub record CallKept (size : ℕ) (ws : List ℕ) (b : Book) (call : Call) : Type 0 where
+  pub judged : judgement ws call ≡ bookJudgement b size call
   pub never-14 : (place : ℕ) → judgement ws call ≢ Refused 14 place
   pub answer : judgement ws call ≡ Fine → AnswerKept ws b call
 
--- on an area whose words are ws and whose book is b: word 4 is within the bound now and after each of the calls, and each call is as promised
-abbrev pub Kept : List ℕ → Book → List Call → Type 0
-Kept ws b [] = WithinBound (reliabilityWord ws) b
-Kept ws b (call ∷ calls) =
-    WithinBound (reliabilityWord ws) b × CallKept ws b call × Kept (left ws call) (bookStep b (length ws) call) calls
+-- on an area of `size` words, which are ws, and whose book is b: it is current now and after each of the calls, and each call is as promised
+abbrev pub Kept : ℕ → List ℕ → Book → List Call → Type 0
+Kept size ws b [] = Current ws b
+Kept size ws b (call ∷ calls) = Current ws b × CallKept size ws b call × Kept size (left ws call) (bookStep b size call) calls
 
 -- an accepted opening into an area that held any words, then any calls, further openings and refused calls among them
 abbrev pub Demand3 : Type 0
 Demand3 =
-    (ws bs : List ℕ) (calls : List Call) → openJudgement bs (length ws) ≡ Fine → Kept (openWords bs ws) (imageBook bs) calls
+    (ws bs : List ℕ) (calls : List Call)
+    → openJudgement bs (length ws) ≡ Fine
+    → Kept (length ws) (openWords bs ws) (imageBook bs) calls
 
 -- beside demand 3, of any area: the words that a call needs, by the image's counts at opening and by the area's elsewhere
 abbrev pub neededBy : List ℕ → Call → ℕ

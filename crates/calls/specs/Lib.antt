@@ -1,3 +1,3 @@
-pub mod Judged
+pub mod Judgements
 pub mod Calls
 pub mod Sheets

@@ -1,96 +1,202 @@
--- Sheets with known results of document 01, as images: what opening them answers, and their reliabilities. Proved in proofs/Sheets.antt.
--- An image below has a line for each gate record, one for the output words, one for the trailer.
-use Prim.Native.Nat.{ℕ, _^_}
-use mathlib.Core.List.{List, [], _∷_}
+-- Document 01's sheets with known results that are to be proved, as one table: conversions of chances, and openings of images with what they come to.
+-- `SheetsHold` says that the definitions give the table; proofs/Sheets.antt proves it.
+use Prim.Native.Nat.{ℕ, _+_, _*_, _/_, _^_}
+use mathlib.Core.List.{List, [], _∷_, _++_, map}
+use mathlib.Core.Path.{_≡_}
 use lib.ListN.{replicate}
-use Rattle.area.specs.Layout.{inputs}
+use Rattle.lists.specs.Lists.{joined}
 use Rattle.refusal.specs.declared.Judgement.{Judgement}
 use Rattle.refusal.specs.declared.Judgement.the-variants.{Fine, Refused}
-use Rattle.lists.specs.Lists.{joined}
-use Rattle.calls.specs.Calls.{reliabilityAt}
+use Rattle.refusal.specs.Judgement.{unlessRefused}
+use Rattle.chance.specs.declared.FlipUnits.the-variants.{Units}
+use Rattle.chance.specs.Number.{chanceScale}
+use Rattle.chance.specs.Flip.{readUnits}
+use Rattle.netlist.specs.Exact.{exactSum}
+use Rattle.area.specs.Layout.{mostWords, inputs, gates, figure}
+use Rattle.image.specs.Image.{imageInputs, imageGates}
+use Rattle.image.specs.Netlist.{imageNet}
+use Rattle.calls.specs.Judgements.{openJudgement}
+use Rattle.calls.specs.Calls.{openWords, openLive, reliabilityFor, averageOf}
+
+-- ---- fields: the eight bytes of a chance
+
+abbrev pub never : List ℕ
+never = replicate 8 0
+
+abbrev pub twentieth : List ℕ
+twentieth = 0x9a ∷ 0x99 ∷ 0x99 ∷ 0x99 ∷ 0x99 ∷ 0x99 ∷ 0xa9 ∷ 0x3f ∷ []
+
+abbrev pub half : List ℕ
+half = 0 ∷ 0 ∷ 0 ∷ 0 ∷ 0 ∷ 0 ∷ 0xe0 ∷ 0x3f ∷ []
+
+abbrev pub one : List ℕ
+one = 0 ∷ 0 ∷ 0 ∷ 0 ∷ 0 ∷ 0 ∷ 0xf0 ∷ 0x3f ∷ []
+
+-- ---- conversions: a kind, a field, and its units
+
+pub record Conversion : Type 0 where
+  pub kind : ℕ
+  pub field : List ℕ
+  pub units : ℕ
+
+abbrev pub conversions : List Conversion
+conversions =
+    record { kind = 1; field = twentieth; units = 53_687_091 }
+    ∷ record { kind = 1; field = half; units = 536_870_912 }
+    ∷ record { kind = 1; field = one; units = 1_073_741_824 }
+    -- 2^-31, 2^-32, and a strike of 2^-16 with a window of 2^-15
+    ∷ record { kind = 1; field = 0 ∷ 0 ∷ 0 ∷ 0 ∷ 0 ∷ 0 ∷ 0 ∷ 0x3e ∷ []; units = 1 }
+    ∷ record { kind = 1; field = 0 ∷ 0 ∷ 0 ∷ 0 ∷ 0 ∷ 0 ∷ 0xf0 ∷ 0x3d ∷ []; units = 0 }
+    ∷ record { kind = 2; field = 0 ∷ 0 ∷ 0x80 ∷ 0x37 ∷ 0 ∷ 0 ∷ 0 ∷ 0x38 ∷ []; units = 1 }
+    ∷ []
+
+-- ---- images: gate records, output words, the trailer; every number below 256, so that its second byte is 0
+
+-- a gate with at most two used pins
+abbrev pub gateRecord : ℕ → ℕ → ℕ → ℕ → ℕ → List ℕ → List ℕ
+gateRecord count table first second kind field = count ∷ kind ∷ table ∷ 0 ∷ first ∷ 0 ∷ second ∷ 0 ∷ 0 ∷ 0 ∷ 0 ∷ 0 ∷ field
+
+abbrev pub buffer : ℕ → List ℕ → List ℕ
+buffer source field = gateRecord 1 2 source 0 1 field
+
+abbrev pub andGate : ℕ → ℕ → ℕ → List ℕ → List ℕ
+andGate first second kind field = gateRecord 2 8 first second kind field
+
+abbrev pub twoBytes : List ℕ → List ℕ
+twoBytes [] = []
+twoBytes (o ∷ os) = o ∷ 0 ∷ twoBytes os
+
+-- n inputs, g gates, k outputs, and no heading
+abbrev pub trailer : ℕ → ℕ → ℕ → List ℕ
+trailer n g k =
+    n ∷ 0 ∷ g ∷ 0 ∷ k ∷ 0 ∷ 1 ∷ 0 ∷ (20 * g + 2 * k) ∷ 0 ∷ 0 ∷ 0 ∷ (20 * g + 2 * k + 16) ∷ 0 ∷ 0 ∷ 0 ∷ []
 
 -- the printed sheet: buffers at chance 0.5 on inputs 0 and 1, and an AND of both that never flips
 abbrev pub printedImage : List ℕ
-printedImage =
-    1 ∷ 1 ∷ 2 ∷ 0 ∷ 0 ∷ 0 ∷ 0 ∷ 0 ∷ 0 ∷ 0 ∷ 0 ∷ 0 ∷ 0 ∷ 0 ∷ 0 ∷ 0 ∷ 0 ∷ 0 ∷ 0xe0 ∷ 63
-    ∷ 1 ∷ 1 ∷ 2 ∷ 0 ∷ 1 ∷ 0 ∷ 0 ∷ 0 ∷ 0 ∷ 0 ∷ 0 ∷ 0 ∷ 0 ∷ 0 ∷ 0 ∷ 0 ∷ 0 ∷ 0 ∷ 0xe0 ∷ 63
-    ∷ 2 ∷ 0 ∷ 8 ∷ 0 ∷ 2 ∷ 0 ∷ 3 ∷ 0 ∷ 0 ∷ 0 ∷ 0 ∷ 0 ∷ 0 ∷ 0 ∷ 0 ∷ 0 ∷ 0 ∷ 0 ∷ 0 ∷ 0
-    ∷ 4 ∷ 0
-    ∷ 2 ∷ 0 ∷ 3 ∷ 0 ∷ 1 ∷ 0 ∷ 1 ∷ 0 ∷ 62 ∷ 0 ∷ 0 ∷ 0 ∷ 78 ∷ 0 ∷ 0 ∷ 0 ∷ []
+printedImage = buffer 0 half ++ (buffer 1 half ++ (andGate 2 3 0 never ++ (twoBytes (4 ∷ []) ++ trailer 2 3 1)))
 
 -- document 001, figure 2.1: two ANDs at 0.05, on inputs 0, 1 and on inputs 1, 2, an output each
 abbrev pub twoAndsImage : List ℕ
-twoAndsImage =
-    2 ∷ 1 ∷ 8 ∷ 0 ∷ 0 ∷ 0 ∷ 1 ∷ 0 ∷ 0 ∷ 0 ∷ 0 ∷ 0 ∷ 0x9a ∷ 0x99 ∷ 0x99 ∷ 0x99 ∷ 0x99 ∷ 0x99 ∷ 0xa9 ∷ 63
-    ∷ 2 ∷ 1 ∷ 8 ∷ 0 ∷ 1 ∷ 0 ∷ 2 ∷ 0 ∷ 0 ∷ 0 ∷ 0 ∷ 0 ∷ 0x9a ∷ 0x99 ∷ 0x99 ∷ 0x99 ∷ 0x99 ∷ 0x99 ∷ 0xa9 ∷ 63
-    ∷ 3 ∷ 0 ∷ 4 ∷ 0
-    ∷ 3 ∷ 0 ∷ 2 ∷ 0 ∷ 2 ∷ 0 ∷ 1 ∷ 0 ∷ 44 ∷ 0 ∷ 0 ∷ 0 ∷ 60 ∷ 0 ∷ 0 ∷ 0 ∷ []
+twoAndsImage = andGate 0 1 1 twentieth ++ (andGate 1 2 1 twentieth ++ (twoBytes (3 ∷ 4 ∷ []) ++ trailer 3 2 2))
 
 -- an AND at 0.05 into an inverter at 0.05
 abbrev pub andInverterImage : List ℕ
-andInverterImage =
-    2 ∷ 1 ∷ 8 ∷ 0 ∷ 0 ∷ 0 ∷ 1 ∷ 0 ∷ 0 ∷ 0 ∷ 0 ∷ 0 ∷ 0x9a ∷ 0x99 ∷ 0x99 ∷ 0x99 ∷ 0x99 ∷ 0x99 ∷ 0xa9 ∷ 63
-    ∷ 1 ∷ 1 ∷ 1 ∷ 0 ∷ 2 ∷ 0 ∷ 0 ∷ 0 ∷ 0 ∷ 0 ∷ 0 ∷ 0 ∷ 0x9a ∷ 0x99 ∷ 0x99 ∷ 0x99 ∷ 0x99 ∷ 0x99 ∷ 0xa9 ∷ 63
-    ∷ 3 ∷ 0
-    ∷ 2 ∷ 0 ∷ 2 ∷ 0 ∷ 1 ∷ 0 ∷ 1 ∷ 0 ∷ 42 ∷ 0 ∷ 0 ∷ 0 ∷ 58 ∷ 0 ∷ 0 ∷ 0 ∷ []
+andInverterImage = andGate 0 1 1 twentieth ++ (gateRecord 1 1 2 0 1 twentieth ++ (twoBytes (3 ∷ []) ++ trailer 2 2 1))
 
 -- two buffers in a row that always flip
 abbrev pub sureBuffersImage : List ℕ
-sureBuffersImage =
-    1 ∷ 1 ∷ 2 ∷ 0 ∷ 0 ∷ 0 ∷ 0 ∷ 0 ∷ 0 ∷ 0 ∷ 0 ∷ 0 ∷ 0 ∷ 0 ∷ 0 ∷ 0 ∷ 0 ∷ 0 ∷ 0xf0 ∷ 63
-    ∷ 1 ∷ 1 ∷ 2 ∷ 0 ∷ 1 ∷ 0 ∷ 0 ∷ 0 ∷ 0 ∷ 0 ∷ 0 ∷ 0 ∷ 0 ∷ 0 ∷ 0 ∷ 0 ∷ 0 ∷ 0 ∷ 0xf0 ∷ 63
-    ∷ 2 ∷ 0
-    ∷ 1 ∷ 0 ∷ 2 ∷ 0 ∷ 1 ∷ 0 ∷ 1 ∷ 0 ∷ 42 ∷ 0 ∷ 0 ∷ 0 ∷ 58 ∷ 0 ∷ 0 ∷ 0 ∷ []
+sureBuffersImage = buffer 0 one ++ (buffer 1 one ++ (twoBytes (2 ∷ []) ++ trailer 1 2 1))
 
 -- no gates, the output reads an input
 abbrev pub noGatesImage : List ℕ
-noGatesImage =
-    0 ∷ 0
-    ∷ 1 ∷ 0 ∷ 0 ∷ 0 ∷ 1 ∷ 0 ∷ 1 ∷ 0 ∷ 2 ∷ 0 ∷ 0 ∷ 0 ∷ 18 ∷ 0 ∷ 0 ∷ 0 ∷ []
+noGatesImage = twoBytes (0 ∷ []) ++ trailer 1 0 1
 
--- both pins of an AND on one gate
+-- both pins of an AND on one gate; both on one input
 abbrev pub gateTwiceImage : List ℕ
-gateTwiceImage =
-    1 ∷ 1 ∷ 2 ∷ 0 ∷ 0 ∷ 0 ∷ 0 ∷ 0 ∷ 0 ∷ 0 ∷ 0 ∷ 0 ∷ 0 ∷ 0 ∷ 0 ∷ 0 ∷ 0 ∷ 0 ∷ 0xe0 ∷ 63
-    ∷ 2 ∷ 0 ∷ 8 ∷ 0 ∷ 1 ∷ 0 ∷ 1 ∷ 0 ∷ 0 ∷ 0 ∷ 0 ∷ 0 ∷ 0 ∷ 0 ∷ 0 ∷ 0 ∷ 0 ∷ 0 ∷ 0 ∷ 0
-    ∷ 2 ∷ 0
-    ∷ 1 ∷ 0 ∷ 2 ∷ 0 ∷ 1 ∷ 0 ∷ 1 ∷ 0 ∷ 42 ∷ 0 ∷ 0 ∷ 0 ∷ 58 ∷ 0 ∷ 0 ∷ 0 ∷ []
+gateTwiceImage = buffer 0 half ++ (andGate 1 1 0 never ++ (twoBytes (2 ∷ []) ++ trailer 1 2 1))
 
--- both pins of an AND on one input
 abbrev pub inputTwiceImage : List ℕ
-inputTwiceImage =
-    2 ∷ 0 ∷ 8 ∷ 0 ∷ 0 ∷ 0 ∷ 0 ∷ 0 ∷ 0 ∷ 0 ∷ 0 ∷ 0 ∷ 0 ∷ 0 ∷ 0 ∷ 0 ∷ 0 ∷ 0 ∷ 0 ∷ 0
-    ∷ 1 ∷ 0
-    ∷ 1 ∷ 0 ∷ 1 ∷ 0 ∷ 1 ∷ 0 ∷ 1 ∷ 0 ∷ 22 ∷ 0 ∷ 0 ∷ 0 ∷ 38 ∷ 0 ∷ 0 ∷ 0 ∷ []
+inputTwiceImage = andGate 0 0 0 never ++ (twoBytes (1 ∷ []) ++ trailer 1 1 1)
 
 -- a live gate that one live and one dead gate read
 abbrev pub deadReaderImage : List ℕ
-deadReaderImage =
-    1 ∷ 1 ∷ 2 ∷ 0 ∷ 0 ∷ 0 ∷ 0 ∷ 0 ∷ 0 ∷ 0 ∷ 0 ∷ 0 ∷ 0 ∷ 0 ∷ 0 ∷ 0 ∷ 0 ∷ 0 ∷ 0xe0 ∷ 63
-    ∷ 1 ∷ 1 ∷ 2 ∷ 0 ∷ 1 ∷ 0 ∷ 0 ∷ 0 ∷ 0 ∷ 0 ∷ 0 ∷ 0 ∷ 0 ∷ 0 ∷ 0 ∷ 0 ∷ 0 ∷ 0 ∷ 0xe0 ∷ 63
-    ∷ 1 ∷ 1 ∷ 2 ∷ 0 ∷ 1 ∷ 0 ∷ 0 ∷ 0 ∷ 0 ∷ 0 ∷ 0 ∷ 0 ∷ 0 ∷ 0 ∷ 0 ∷ 0 ∷ 0 ∷ 0 ∷ 0xe0 ∷ 63
-    ∷ 2 ∷ 0
-    ∷ 1 ∷ 0 ∷ 3 ∷ 0 ∷ 1 ∷ 0 ∷ 1 ∷ 0 ∷ 62 ∷ 0 ∷ 0 ∷ 0 ∷ 78 ∷ 0 ∷ 0 ∷ 0 ∷ []
+deadReaderImage = buffer 0 half ++ (buffer 1 half ++ (buffer 1 half ++ (twoBytes (2 ∷ []) ++ trailer 1 3 1)))
 
--- a sheet: its image, how it is judged, its live gates, and, unless it is refused, the reliability at each pattern in rising order
-pub record Sheet : Type 0 where
+-- ---- openings: how an image is judged and its live gates; and, unless it is refused, the reliability and the exact sum at each pattern in rising order,
+-- the average with all weights 1, and every gate's failure at pattern 0. The exact sums are fractions of `parts`.
+
+pub record Opening : Type 0 where
   pub image : List ℕ
   pub judged : Judgement
   pub live : ℕ
-  pub units : List ℕ
+  pub reliabilities : List ℕ
+  pub average : ℕ
+  pub failures : List ℕ
+  pub exact : List ℕ
+  pub parts : ℕ
+
+abbrev pub openings : List Opening
+openings =
+    record {
+      image = printedImage; judged = Fine; live = 3;
+      reliabilities = 805_306_368 ∷ 805_306_368 ∷ 805_306_368 ∷ 268_435_456 ∷ []; average = 671_088_640;
+      failures = 536_870_912 ∷ 536_870_912 ∷ 268_435_456 ∷ [];
+      exact = 3 ∷ 3 ∷ 3 ∷ 1 ∷ []; parts = 4;
+    }
+    ∷ record {
+      image = twoAndsImage; judged = Fine; live = 2;
+      reliabilities = replicate 8 969_051_997; average = 969_051_997;
+      failures = 53_687_091 ∷ 53_687_091 ∷ [];
+      exact = replicate 8 4_686_047_914_827_681_907_366_887_202_708_521; parts = 2 ^ 112;
+    }
+    ∷ record {
+      image = andInverterImage; judged = Fine; live = 2;
+      reliabilities = replicate 4 971_736_351; average = 971_736_351;
+      failures = 53_687_091 ∷ 102_005_473 ∷ [];
+      exact = replicate 4 2_349_514_328_487_009_488_939_682_662_145_065; parts = 2 ^ 111;
+    }
+    ∷ record {
+      image = sureBuffersImage; judged = Fine; live = 2;
+      reliabilities = replicate 2 1_073_741_824; average = 1_073_741_824;
+      failures = 1_073_741_824 ∷ 0 ∷ [];
+      exact = replicate 2 1; parts = 1;
+    }
+    ∷ record {
+      image = noGatesImage; judged = Fine; live = 0;
+      reliabilities = replicate 2 1_073_741_824; average = 1_073_741_824;
+      failures = [];
+      exact = replicate 2 1; parts = 1;
+    }
+    ∷ record {
+      image = gateTwiceImage; judged = Refused 9 0; live = 2;
+      reliabilities = []; average = 0;
+      failures = [];
+      exact = []; parts = 1;
+    }
+    ∷ record {
+      image = inputTwiceImage; judged = Fine; live = 1;
+      reliabilities = replicate 2 1_073_741_824; average = 1_073_741_824;
+      failures = 0 ∷ [];
+      exact = replicate 2 1; parts = 1;
+    }
+    ∷ record {
+      image = deadReaderImage; judged = Fine; live = 2;
+      reliabilities = replicate 2 536_870_912; average = 536_870_912;
+      failures = 536_870_912 ∷ 536_870_912 ∷ 536_870_912 ∷ [];
+      exact = replicate 2 1; parts = 2;
+    }
+    ∷ []
+
+-- ---- what the definitions give for each column
 
 -- the reliabilities at all patterns in rising order, everything worked out afresh for each
 abbrev pub atPatterns : List ℕ → List ℕ
-atPatterns ws = joined (λ (q : ℕ). reliabilityAt ws q ∷ []) (2 ^ inputs ws)
+atPatterns ws = joined (λ (q : ℕ). reliabilityFor ws q ∷ []) (2 ^ inputs ws)
 
-abbrev pub sheets : List Sheet
-sheets =
-    record { image = printedImage; judged = Fine; live = 3; units = 805_306_368 ∷ 805_306_368 ∷ 805_306_368 ∷ 268_435_456 ∷ [] }
-    ∷ record { image = twoAndsImage; judged = Fine; live = 2; units = replicate 8 969_051_997 }
-    ∷ record { image = andInverterImage; judged = Fine; live = 2; units = replicate 4 971_736_351 }
-    ∷ record { image = sureBuffersImage; judged = Fine; live = 2; units = replicate 2 1_073_741_824 }
-    ∷ record { image = noGatesImage; judged = Fine; live = 0; units = replicate 2 1_073_741_824 }
-    ∷ record { image = gateTwiceImage; judged = Refused 9 0; live = 2; units = [] }
-    ∷ record { image = inputTwiceImage; judged = Fine; live = 1; units = replicate 2 1_073_741_824 }
-    ∷ record { image = deadReaderImage; judged = Fine; live = 2; units = replicate 2 536_870_912 }
-    ∷ []
+abbrev pub failuresHeld : List ℕ → List ℕ
+failuresHeld ws = joined (λ (j : ℕ). figure ws j / 2 ∷ []) (gates ws)
+
+-- the exact sums, times the parts; and fractions, times the exact sum's denominator
+abbrev pub exactAt : List ℕ → ℕ → List ℕ
+exactAt bs parts = joined (λ (q : ℕ). exactSum chanceScale (imageNet bs) q * parts ∷ []) (2 ^ imageInputs bs)
+
+abbrev pub scaled : List ℕ → List ℕ → List ℕ
+scaled bs fractions = map (λ (f : ℕ). f * chanceScale ^ imageGates bs) fractions
+
+-- the table, opened in an area of 8,264 words that held any words ws
+pub record SheetsHold (ws : List ℕ) : Type 0 where
+  pub conversions-hold : map (λ (c : Conversion). readUnits (c .kind) (c .field)) conversions ≡ map (λ (c : Conversion). Units (c .units)) conversions
+  pub judgements-hold : map (λ (s : Opening). openJudgement (s .image) mostWords) openings ≡ map (λ (s : Opening). s .judged) openings
+  pub live-hold : map (λ (s : Opening). openLive (s .image)) openings ≡ map (λ (s : Opening). s .live) openings
+  pub reliabilities-hold :
+      map (λ (s : Opening). unlessRefused (s .judged) (atPatterns (openWords (s .image) ws)) []) openings
+      ≡ map (λ (s : Opening). s .reliabilities) openings
+  pub averages-hold :
+      map (λ (s : Opening). unlessRefused (s .judged) (averageOf (openWords (s .image) ws) (replicate (2 ^ imageInputs (s .image)) 1)) 0) openings
+      ≡ map (λ (s : Opening). s .average) openings
+  pub failures-hold :
+      map (λ (s : Opening). unlessRefused (s .judged) (failuresHeld (openWords (s .image) ws)) []) openings
+      ≡ map (λ (s : Opening). s .failures) openings
+  pub exact-hold :
+      map (λ (s : Opening). unlessRefused (s .judged) (exactAt (s .image) (s .parts)) []) openings
+      ≡ map (λ (s : Opening). scaled (s .image) (s .exact)) openings

@@ -3,7 +3,8 @@ use Prim.Native.Nat.{ℕ, zero, suc, _+_, _*_, _^_, _≤_, _<_}
 use mathlib.Core.Path.{_≡_, refl, sym, ap, _∙_}
 use mathlib.Core.Bool.{Bool, true, false, cond, _&&_, false≢true}
 use mathlib.Core.List.{List}
-use native.Mathlib.Nat.{le-trans, le-of-eq, add-le-add, eq-of-mul-eq-mul-right, mul-assoc, mul-left-comm, mul-pos, mul-comm, mul-le-mul, mul-le-mul-right, zero-mul, div-le-of-le-mul}
+use native.Mathlib.Nat.{le-trans, le-of-eq, add-le-add, eq-of-mul-eq-mul-right, mul-assoc, mul-left-comm, mul-pos, mul-comm, mul-le-mul, mul-le-mul-right}
+use native.Mathlib.Nat.{zero-mul, div-le-of-le-mul}
 use native.Mathlib.Omega.{arith}
 use lib.Dec.{T, lit≤}
 use lib.Ieee.{Float, nan, inf, fin, binary32, binary64, fits, ofBits}
@@ -18,7 +19,9 @@ use Rattle.chance.specs.declared.Flip.the-variants.{Never, Plain, Strike
 use Rattle.chance.specs.declared.FlipRead.the-variants.{Accepted, Refused}
 use Rattle.chance.specs.declared.FlipUnits.the-variants.{Units, Refused as NoUnits}
 use Rattle.chance.specs.Number.{chanceScale, wholeChance, fromZeroToOne, chanceBits}
-use Rattle.chance.specs.Flip.{firstHalf, secondHalf, wholeField, inRange, flipOf, flipAccepted, chanceOf, flipChance, flipUnits, readFlip, readUnits}
+use Rattle.chance.specs.Flip.{firstHalf, secondHalf, wholeField, inRange, flipOf, flipAccepted, chanceOf, flipChance}
+use Rattle.chance.specs.Flip.{flipUnits, readFlip, readUnits}
+use Rattle.chance.specs.Statements.{PlainExact, StrikeExact, ChanceAtMost}
 use Rattle.chance.proofs.Range.{range-of-bits}
 use Rattle.chance.proofs.Exact.{den-power, scale-pos, whole-exact}
 use Rattle.chance.proofs.Product.{range-says}
@@ -118,7 +121,7 @@ chance-at-most (Struck s) h =
     whole-at-most (num (s .chance) * num (s .window)) (den (s .chance) * den (s .window))
     (mul-le-mul (range-at-most (s .chance) (r .0)) (range-at-most (s .window) (r .1)))
 
-pub flip-chance-at-most : (kind : ℕ) (field : List ℕ) → flipAccepted kind field ≡ true → flipChance kind field ≤ chanceScale
+pub flip-chance-at-most : ChanceAtMost
 unfolding flipChance
 flip-chance-at-most kind field h = chance-at-most (flipOf kind field) (accepted-in-range kind field h)
 
@@ -144,7 +147,7 @@ no-units = ap (λ (z : ℕ). roundDiv z chanceScale) (sym (zero-mul chanceScale)
 -- ---- the chance is the IEEE value
 
 -- of a plain chance: the float is finite and equals flipChance / 2^1074
-pub plain-exact : (field : List ℕ) → flipAccepted 1 field ≡ true → Equals (ofBits binary64 (wholeField field)) (flipChance 1 field) chanceScale
+pub plain-exact : PlainExact
 unfolding flipAccepted flipChance flipOf chanceOf inRange
 plain-exact field h = go (ofBits binary64 (wholeField field)) (ofBits-fits binary64 (wholeField field)) h
   where
@@ -169,9 +172,7 @@ strike-own field =
     (le-trans (add-le-add (p .2) (q .2)) (lit≤ tt))
 
 -- of a strike: whatever fractions the two floats equal, their product equals flipChance / 2^1074
-pub strike-exact : (field : List ℕ) (a c b d : ℕ)
-    → Equals (ofBits binary32 (firstHalf field)) a c → Equals (ofBits binary32 (secondHalf field)) b d
-    → a * b * chanceScale ≡ flipChance 2 field * (c * d)
+pub strike-exact : StrikeExact
 strike-exact field a c b d e f =
     let x = ofBits binary32 (firstHalf field) in
     let y = ofBits binary32 (secondHalf field) in

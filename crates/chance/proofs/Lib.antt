@@ -3,4 +3,4 @@ pub mod Exact
 pub mod Product
 pub mod Convert
 pub mod Laws
-pub mod Sheets
+pub mod Fields

@@ -7,7 +7,8 @@ use native.Mathlib.Omega.{arith}
 use lib.Dec.{eqb}
 use lib.ListN.{length, getD, length-map}
 use Rattle.rounding.proofs.Laws.{blend-at-most}
-use Rattle.figure.specs.Figure.{bitOf, indexOf, invertIf, inverted, interleave, errorPatterns, answer, difference, startValues, foldStep, foldPins, gateStep, gateFailure, outputStep, rightOf, failureOf, gateWord}
+use Rattle.figure.specs.Figure.{bitOf, indexOf, invertIf, inverted, interleave, errorPatterns, answer, difference, startValues}
+use Rattle.figure.specs.Figure.{foldStep, foldPins, gateStep, gateFailure, outputStep, rightOf, failureOf, gateWord}
 use Rattle.figure.specs.Steps.{Pin, numbered, spreadStep, spreadPins, differs, lastValue, rightIndex, rightBit, pinsWord}
 use Rattle.figure.proofs.Under.{Under, under-fold, under-choices}
 
@@ -88,7 +89,7 @@ map-spread : (D : ℕ → ℕ) (right wrong : ℕ) (xs : List ℕ)
 map-spread D right wrong [] = refl
 map-spread D right wrong (x ∷ xs) = ap (λ l. D (x + right) ∷ D (x + wrong) ∷ l) (map-spread D right wrong xs)
 
--- the index that an error pattern leads to, from x, where pin 0 has the weight p
+-- the index that an error pattern leads to, from x, where pin 0 has the bit p
 abbrev at : ℕ → ℕ → List ℕ → List Bool → ℕ
 at p x ws es = x + p * indexOf (inverted (map rightOf ws) es)
 

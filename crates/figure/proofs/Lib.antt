@@ -5,3 +5,4 @@ pub mod Under
 pub mod Laws
 pub mod Four
 pub mod Split
+pub mod Word

@@ -1,24 +1,25 @@
 -- Pins that cannot fail need no fold: they only move the index that the others start from. Assumes nothing.
-use Prim.Native.Nat.{ℕ, _+_, _-_, _*_, _/_, _%_, _^_, _≤_, _<_}
+use Prim.Native.Nat.{ℕ, zero, suc, _+_, _-_, _*_, _/_, _%_, _^_, _≤_, _<_}
 use mathlib.Core.List.{List, [], _∷_, _++_, map, append-assoc}
 use mathlib.Core.Path.{_≡_, refl, sym, ap, ap₂, subst, _∙_, fun-ext}
 use native.Mathlib.Numerals.{add-one}
 use native.Mathlib.Omega.{arith}
-use lib.ListN.{length, getD, take, drop, set, drop-of-length-le}
-use lib.Seq.{drop-cons, take-suc-set, length-take-le}
+use lib.ListN.{length, getD, drop, set, drop-of-length-le}
+use lib.Seq.{drop-cons, getD-set-same, getD-set-other}
 use Rattle.rounding.specs.Rounding.{unitsInOne, blend}
 use Rattle.rounding.proofs.Laws.{blend-none}
 use Rattle.figure.specs.Figure.{failureOf, foldStep, foldPins, gateStep, gateWord}
-use Rattle.figure.specs.Steps.{Pin, pinsOf, numbered, firstPins, room, spreadStep, spreadPins, differs, lastValue, rightIndex, rightBit, pinsWord, Split}
+use Rattle.figure.specs.Steps.{Pin, pinsFrom, numbered, firstPins, room, spreadStep, spreadPins, differs, lastValue}
+use Rattle.figure.specs.Steps.{rightIndex, rightBit, pinsWord, Split}
 use Rattle.figure.proofs.Under.{added}
 use Rattle.figure.proofs.Laws.{word-is}
 
 -- what a pin adds to an index where it is right, and where it is wrong
 abbrev rightAdds : Pin → ℕ
-rightAdds p = p .word % 2 * p .weight
+rightAdds p = p .word % 2 * p .bit
 
 abbrev wrongAdds : Pin → ℕ
-wrongAdds p = p .weight - p .word % 2 * p .weight
+wrongAdds p = p .bit - p .word % 2 * p .bit
 
 -- one pin folded, on a function of the index
 abbrev folded : ℕ → (ℕ → ℕ) → Pin → ℕ → ℕ
@@ -71,7 +72,7 @@ module _ (u : ℕ) (pos : 0 < u) (p : Pin) (sure : failureOf (p .word) ≡ 0) wh
 
   -- a pin that cannot fail, left out
   pub without : (table start flip : ℕ) (front back : List Pin)
-      → pinsWord u table start (front ++ (p ∷ back)) flip ≡ pinsWord u table (start + p .word % 2 * p .weight) (front ++ back) flip
+      → pinsWord u table start (front ++ (p ∷ back)) flip ≡ pinsWord u table (start + p .word % 2 * p .bit) (front ++ back) flip
   unfolding pinsWord lastValue
   without table start flip front back =
       let old = front ++ (p ∷ back) in
@@ -116,45 +117,45 @@ split-first words l =
     record { fits = omega (arith, numbered-room words l); word = λ table flip. word-is unitsInOne table flip words }
 
 -- the next pin to come
-numbered-next : (R : ℕ → ℕ) (sources : List ℕ) (i weight : ℕ) → i < length sources
-    → numbered weight (map R (drop i sources))
-    ≡ record { word = R (getD sources i 0); weight = weight } ∷ numbered (2 * weight) (map R (drop (i + 1) sources))
-numbered-next R sources i weight l = rw (add-one i) (ap (λ (xs : List ℕ). numbered weight (map R xs)) (drop-cons sources i 0 l))
+numbered-next : (R : ℕ → ℕ) (sources : List ℕ) (i bit : ℕ) → i < length sources
+    → numbered bit (map R (drop i sources))
+    ≡ record { word = R (getD sources i 0); bit = bit } ∷ numbered (2 * bit) (map R (drop (i + 1) sources))
+numbered-next R sources i bit l = rw (add-one i) (ap (λ (xs : List ℕ). numbered bit (map R xs)) (drop-cons sources i 0 l))
 
-module _ (words : List ℕ) (R : ℕ → ℕ) (sources : List ℕ) (i weight start : ℕ) (kept : List Pin) (l : i < length sources)
-    (before : Split words start (kept ++ numbered weight (map R (drop i sources)))) where
+module _ (words : List ℕ) (R : ℕ → ℕ) (sources : List ℕ) (i bit start : ℕ) (kept : List Pin) (l : i < length sources)
+    (before : Split words start (kept ++ numbered bit (map R (drop i sources)))) where
   next : Pin
-  next = record { word = R (getD sources i 0); weight = weight }
+  next = record { word = R (getD sources i 0); bit = bit }
 
   others : List Pin
-  others = numbered (2 * weight) (map R (drop (i + 1) sources))
+  others = numbered (2 * bit) (map R (drop (i + 1) sources))
 
   now : Split words start (kept ++ (next ∷ others))
   unfolding next others
-  now = subst (λ (ps : List Pin). Split words start (kept ++ ps)) (numbered-next R sources i weight l) before
+  now = subst (λ (ps : List Pin). Split words start (kept ++ ps)) (numbered-next R sources i bit l) before
 
   -- it has room for what is to come
-  pub split-room : weight ≤ 15
+  pub split-room : bit ≤ 15
   unfolding next others
   split-room = omega (arith, now .fits, room-append kept (next ∷ others))
 
   -- a pin that cannot fail is left out
   pub split-without : failureOf (R (getD sources i 0)) ≡ 0
-      → Split words (start + R (getD sources i 0) % 2 * weight) (kept ++ numbered (weight * 2) (map R (drop (i + 1) sources)))
+      → Split words (start + R (getD sources i 0) % 2 * bit) (kept ++ numbered (bit * 2) (map R (drop (i + 1) sources)))
   unfolding next others
   split-without sure =
-      let twice : 2 * weight ≡ weight * 2 = omega arith in
-      subst (λ (a : ℕ). Split words (start + R (getD sources i 0) % 2 * weight) (kept ++ numbered a (map R (drop (i + 1) sources)))) twice
+      let twice : 2 * bit ≡ bit * 2 = omega arith in
+      subst (λ (a : ℕ). Split words (start + R (getD sources i 0) % 2 * bit) (kept ++ numbered a (map R (drop (i + 1) sources)))) twice
       (record {
-        fits = omega (arith, now .fits, room-append kept (next ∷ others), room-append kept others, added (R (getD sources i 0)) weight);
+        fits = omega (arith, now .fits, room-append kept (next ∷ others), room-append kept others, added (R (getD sources i 0)) bit);
         word = λ table flip. sym (without unitsInOne (omega arith) next sure table start flip kept others) ∙ now .word table flip;
       })
 
   -- any other is kept
-  pub split-kept : Split words start ((kept ++ (record { word = R (getD sources i 0); weight = weight } ∷ [])) ++ numbered (weight * 2) (map R (drop (i + 1) sources)))
+  pub split-kept : Split words start ((kept ++ (record { word = R (getD sources i 0); bit = bit } ∷ [])) ++ numbered (bit * 2) (map R (drop (i + 1) sources)))
   unfolding next others
   split-kept =
-      let twice : 2 * weight ≡ weight * 2 = omega arith in
+      let twice : 2 * bit ≡ bit * 2 = omega arith in
       subst (λ (a : ℕ). Split words start ((kept ++ (next ∷ [])) ++ numbered a (map R (drop (i + 1) sources)))) twice
       (subst (Split words start) (sym (append-assoc kept (next ∷ []) others)) now)
 
@@ -163,23 +164,49 @@ append-none [] = refl
 append-none (p ∷ ps) = ap (λ (qs : List Pin). p ∷ qs) (append-none ps)
 
 -- after the last
-pub split-last : (words : List ℕ) (R : ℕ → ℕ) (sources : List ℕ) (i weight start : ℕ) (kept : List Pin) → length sources ≤ i
-    → Split words start (kept ++ numbered weight (map R (drop i sources))) → Split words start kept
-split-last words R sources i weight start kept l before =
+pub split-last : (words : List ℕ) (R : ℕ → ℕ) (sources : List ℕ) (i bit start : ℕ) (kept : List Pin) → length sources ≤ i
+    → Split words start (kept ++ numbered bit (map R (drop i sources))) → Split words start kept
+split-last words R sources i bit start kept l before =
     subst (Split words start)
-    (ap (λ (xs : List ℕ). kept ++ numbered weight (map R xs)) (drop-of-length-le sources l) ∙ append-none kept)
+    (ap (λ (xs : List ℕ). kept ++ numbered bit (map R xs)) (drop-of-length-le sources l) ∙ append-none kept)
     before
 
--- a pin more in two lists of one length, and in two arrays
-pub pins-append : (xs ys : List ℕ) (x y : ℕ) → length xs ≡ length ys → pinsOf (xs ++ (x ∷ [])) (ys ++ (y ∷ [])) ≡ pinsOf xs ys ++ (record { word = x; weight = y } ∷ [])
-pins-append [] [] x y e = refl
-pins-append [] (b ∷ ys) x y e = absurd (omega arith)
-pins-append (a ∷ xs) [] x y e = absurd (omega arith)
-pins-append (a ∷ xs) (b ∷ ys) x y e = ap (λ (ps : List Pin). record { word = a; weight = b } ∷ ps) (pins-append xs ys x y (omega arith))
+-- pins whose words and bits are the same
+pub pins-same : (k n : ℕ) (word new bit fresh : ℕ → ℕ) → ((i : ℕ) → i < k + n → new i ≡ word i) → ((i : ℕ) → i < k + n → fresh i ≡ bit i)
+    → pinsFrom k n new fresh ≡ pinsFrom k n word bit
+pins-same k zero word new bit fresh e f = refl
+pins-same k (suc n) word new bit fresh e f =
+    ap₂ _∷_ (ap₂ pin (e k (omega arith)) (f k (omega arith)))
+    (pins-same (suc k) n word new bit fresh (λ i l. e i (omega arith)) (λ i l. f i (omega arith)))
+  where
+    pin : ℕ → ℕ → Pin
+    pin w b = record { word = w; bit = b }
 
-pub first-more : (k : ℕ) (words weights : List ℕ) (w a : ℕ) → k < length words → k < length weights
-    → firstPins (k + 1) (set words k w) (set weights k a) ≡ firstPins k words weights ++ (record { word = w; weight = a } ∷ [])
-first-more k words weights w a l m =
+-- the last pin apart
+pins-last : (k n : ℕ) (word bit : ℕ → ℕ)
+    → pinsFrom k (suc n) word bit ≡ pinsFrom k n word bit ++ (record { word = word (k + n); bit = bit (k + n) } ∷ [])
+pins-last k zero word bit =
+    let here : k ≡ k + 0 = omega arith in
+    ap (λ (i : ℕ). record { word = word i; bit = bit i } ∷ []) here
+pins-last k (suc n) word bit =
+    let next : suc k + n ≡ k + suc n = omega arith in
+    ap (λ (ps : List Pin). record { word = word k; bit = bit k } ∷ ps)
+    (pins-last (suc k) n word bit
+    ∙ ap (λ (i : ℕ). pinsFrom (suc k) n word bit ++ (record { word = word i; bit = bit i } ∷ [])) next)
+
+-- a pin more in two arrays, of sources whose words R tells and of bits
+pub pins-more : (R : ℕ → ℕ) (k : ℕ) (sources bits : List ℕ) (s b : ℕ) → k < length sources → k < length bits
+    → pinsFrom 0 (k + 1) (λ i. R (getD (set sources k s) i 0)) (λ i. getD (set bits k b) i 0)
+    ≡ pinsFrom 0 k (λ i. R (getD sources i 0)) (λ i. getD bits i 0) ++ (record { word = R s; bit = b } ∷ [])
+pins-more R k sources bits s b l m =
+    let here : 0 + k ≡ k = omega arith in
     rw (add-one k)
-    (ap₂ pinsOf (take-suc-set words k w l) (take-suc-set weights k a m)
-    ∙ pins-append (take k words) (take k weights) w a (length-take-le k words (omega arith) ∙ sym (length-take-le k weights (omega arith))))
+    (pins-last 0 k _ _
+    ∙ ap₂ _++_
+    (pins-same 0 k _ _ _ _ (λ i h. ap R (getD-set-other sources k i s 0 (λ e. omega arith))) (λ i h. getD-set-other bits k i b 0 (λ e. omega arith)))
+    (ap (λ (i : ℕ). record { word = R (getD (set sources k s) i 0); bit = getD (set bits k b) i 0 } ∷ []) here
+    ∙ ap₂ (λ (x y : ℕ). record { word = R x; bit = y } ∷ []) (getD-set-same sources k s 0 l) (getD-set-same bits k b 0 m)))
+
+pub first-more : (k : ℕ) (words bits : List ℕ) (w b : ℕ) → k < length words → k < length bits
+    → firstPins (k + 1) (set words k w) (set bits k b) ≡ firstPins k words bits ++ (record { word = w; bit = b } ∷ [])
+first-more k words bits w b l m = pins-more (λ x. x) k words bits w b l m

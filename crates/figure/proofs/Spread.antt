@@ -8,7 +8,8 @@ use lib.ListN.{length, getD, take, set, length-set}
 use lib.Seq.{take-suc, take-suc-set}
 use Rattle.figure.specs.Steps.{spreadStep}
 
-spread-append : (right wrong : ℕ) (xs : List ℕ) (x : ℕ) → spreadStep right wrong (xs ++ (x ∷ [])) ≡ spreadStep right wrong xs ++ ((x + right) ∷ (x + wrong) ∷ [])
+spread-append : (right wrong : ℕ) (xs : List ℕ) (x : ℕ)
+    → spreadStep right wrong (xs ++ (x ∷ [])) ≡ spreadStep right wrong xs ++ ((x + right) ∷ (x + wrong) ∷ [])
 spread-append right wrong [] x = refl
 spread-append right wrong (y ∷ xs) x = ap (λ (l : List ℕ). (y + right) ∷ (y + wrong) ∷ l) (spread-append right wrong xs x)
 
@@ -34,7 +35,9 @@ pub spread-turn : (right wrong : ℕ) (xs ys : List ℕ) (i : ℕ) → i < lengt
 spread-turn right wrong xs ys i hx hy e =
     let next : 2 * (i + 1) ≡ 2 * i + 2 = omega arith in
     rw (next, add-one i, take-suc xs i 0)
-    (take-two ys (2 * i) _ _ hy ∙ ap (λ (l : List ℕ). l ++ ((getD xs i 0 + right) ∷ (getD xs i 0 + wrong) ∷ [])) e ∙ sym (spread-append right wrong (take i xs) (getD xs i 0)))
+    (take-two ys (2 * i) _ _ hy
+    ∙ ap (λ (l : List ℕ). l ++ ((getD xs i 0 + right) ∷ (getD xs i 0 + wrong) ∷ [])) e
+    ∙ sym (spread-append right wrong (take i xs) (getD xs i 0)))
 
 -- one turn of filling in D of each element
 pub map-turn : (D : ℕ → ℕ) (xs ys : List ℕ) (i : ℕ) → i < length xs → i < length ys → take i ys ≡ map D (take i xs)

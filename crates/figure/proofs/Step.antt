@@ -8,6 +8,7 @@ use borrow.Author.Count.{below-none, below-more}
 use lib.ListN.{length, getD, take, set, length-set, length-take}
 use lib.Seq.{getD-set-same, getD-set-other, getD-take, ext-getD, length-take-le}
 use Rattle.rounding.specs.Rounding.{blend}
+use Rattle.rounding.proofs.Laws.{blend-at-most}
 use Rattle.figure.specs.Figure.{foldStep}
 
 -- pair k of the list, folded
@@ -73,3 +74,9 @@ folded {u} {f} {xs} {ys} {half} s h =
     ∙ s .done i l
     ∙ sym (ap₂ (λ (r w : ℕ). blend u r w f) (getD-take (2 * half) xs (2 * i) 0 (omega arith)) (getD-take (2 * half) xs (2 * i + 1) 0 (omega arith)))
     ∙ sym (at-foldStep u f (take (2 * half) xs) i (omega (arith, length-take-le (2 * half) xs h))))
+
+-- and no value there passes u
+pub folded-fits : {u f : ℕ} {xs ys : List ℕ} {half : ℕ} → FoldedTo u f xs ys half → 0 < u → f ≤ u
+    → ((i : ℕ) → i < 2 * half → getD xs i 0 ≤ u) → (i : ℕ) → i < half → getD ys i 0 ≤ u
+folded-fits {u} {f} {xs} {ys} {half} s pos small fits i l =
+    rw (s .done i l) (blend-at-most u (getD xs (2 * i) 0) (getD xs (2 * i + 1) 0) f u pos small (fits (2 * i) (omega arith)) (fits (2 * i + 1) (omega arith)))

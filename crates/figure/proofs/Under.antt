@@ -22,9 +22,9 @@ part b r xs ys n e h i l =
     let here : getD xs i 0 ≡ getD ys i 0 = sym (getD-take n xs i 0 l) ∙ ap (λ (zs : List ℕ). getD zs i 0) e in
     omega (arith, here, h i)
 
--- a pin adds at most its weight
-pub added : (word weight : ℕ) → word % 2 * weight ≤ weight
-added word weight = omega (arith, mul-le-mul-right {m = word % 2} {n = 1} weight (omega arith), one-mul weight)
+-- a pin adds at most its bit
+pub added : (word bit : ℕ) → word % 2 * bit ≤ bit
+added word bit = omega (arith, mul-le-mul-right {m = word % 2} {n = 1} bit (omega arith), one-mul bit)
 
 under-step : (b r right wrong : ℕ) (xs : List ℕ) → Under b (right + wrong + r) xs → Under b r (spreadStep right wrong xs)
 under-step b r right wrong [] h i = omega (arith, h i)
@@ -32,9 +32,9 @@ under-step b r right wrong (x ∷ xs) h zero = omega (arith, h 0)
 under-step b r right wrong (x ∷ xs) h (suc zero) = omega (arith, h 0)
 under-step b r right wrong (x ∷ xs) h (suc (suc i)) = under-step b r right wrong xs (λ j. h (suc j)) i
 
-pub under-pin : (b r word weight : ℕ) (xs : List ℕ) → Under b (weight + r) xs → Under b r (spreadPin word weight xs)
-under-pin b r word weight xs h =
-    under-step b r (word % 2 * weight) (weight - word % 2 * weight) xs (λ i. omega (arith, h i, added word weight))
+pub under-pin : (b r word bit : ℕ) (xs : List ℕ) → Under b (bit + r) xs → Under b r (spreadPin word bit xs)
+under-pin b r word bit xs h =
+    under-step b r (word % 2 * bit) (bit - word % 2 * bit) xs (λ i. omega (arith, h i, added word bit))
 
 pub under-fold : (u f : ℕ) (xs : List ℕ) → 0 < u → f ≤ u → Under u 0 xs → Under u 0 (foldStep u f xs)
 under-fold u f [] pos hf h i = h i
@@ -64,4 +64,4 @@ under-one b r x h (suc i) = omega arith
 pub under-pins : (b r start : ℕ) (ps : List Pin) → start + room ps + r ≤ b → Under b r (spreadPins ps (start ∷ []))
 under-pins b r start [] h = under-one b r start (omega arith)
 under-pins b r start (p ∷ ps) h =
-    under-pin b r (p .word) (p .weight) (spreadPins ps (start ∷ [])) (under-pins b (p .weight + r) start ps (omega arith))
+    under-pin b r (p .word) (p .bit) (spreadPins ps (start ∷ [])) (under-pins b (p .bit + r) start ps (omega arith))

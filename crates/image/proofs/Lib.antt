@@ -1,5 +1,6 @@
 pub mod Passed
 pub mod Middle
+pub mod Numbers
 pub mod Right
 pub mod Words
 pub mod Sound

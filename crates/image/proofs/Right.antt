@@ -1,19 +1,17 @@
--- What is known of an image that is not refused: each chain of refusals is walked here once. And no image is refused with 14. Assumes nothing.
+-- What is known of an image that is not refused: each chain of refusals is walked here once. Assumes nothing.
 use Prim.Native.Nat.{ℕ, _+_, _<_}
 use mathlib.Core.Bool.{true}
 use mathlib.Core.List.{List}
 use mathlib.Core.Path.{_≡_}
 use native.Mathlib.Omega.{arith}
 use borrow.Author.Tests.{leb-true, ltb-true, eqb-true}
-use lib.Dec.{ltb, eqb}
 use lib.ListN.{getD}
 use Rattle.chance.specs.Flip.{flipAccepted}
-use Rattle.area.specs.Rules.{gateShape, usedBelow, countsInRange}
 use Rattle.rules.proofs.Facts.{both, counts-hold, Shape, shape-holds, used-holds}
 use Rattle.refusal.specs.declared.Judgement.the-variants.{Fine}
-use Rattle.refusal.proofs.Laws.{unless-fine, otherwise-fine, lowest-fine, Never, never-unless, never-otherwise, never-lowest}
-use Rattle.image.specs.Image.{knownFormat, imageInputs, imageGates, imageOutputs}
-use Rattle.image.specs.Image.{imageFormat, middle, recordCount, recordKind, recordTable, recordPins, recordField, outputAt}
+use Rattle.refusal.proofs.Laws.{unless-fine, otherwise-fine, lowest-fine}
+use Rattle.image.specs.Image.{imageInputs, imageGates, imageOutputs}
+use Rattle.image.specs.Image.{middle, recordCount, recordKind, recordTable, recordPins, recordField, outputAt}
 use Rattle.image.specs.Refusals.{lengthRight, backRight, trailerRefusal, TrailerRight, gateRefusal, outputRefusal, middleRefusal, imageRefusal}
 
 -- ---- 1 to 4
@@ -82,32 +80,3 @@ image-right bs e =
       gate = λ j l. gate-right m n j (lowest-fine (gateRefusal m n) g j l (inner .0));
       output = λ k l. ltb-true _ _ (unless-fine _ 8 k (lowest-fine (outputRefusal m n g) (imageOutputs bs) k l (inner .1)));
     }
-
--- ---- never 14: each rule has its own number
-
-never-gate : (m : List ℕ) (n j : ℕ) → Never 14 (gateRefusal m n j)
-unfolding gateRefusal
-never-gate m n j =
-    never-otherwise 14 _ _ (never-unless 14 (gateShape (recordCount m j) (recordTable m j) (recordPins m j)) 5 j (λ e. omega arith))
-    (never-otherwise 14 _ _
-    (never-unless 14 (usedBelow (n + j) (recordCount m j) (recordPins m j)) 6 j (λ e. omega arith))
-    (never-unless 14 (flipAccepted (recordKind m j) (recordField m j)) 7 j (λ e. omega arith)))
-
-never-output : (m : List ℕ) (n g k : ℕ) → Never 14 (outputRefusal m n g k)
-unfolding outputRefusal
-never-output m n g k = never-unless 14 (ltb (outputAt m g k) (n + g)) 8 k (λ e. omega arith)
-
-pub never-image : (bs : List ℕ) → Never 14 (imageRefusal bs)
-unfolding imageRefusal trailerRefusal middleRefusal
-never-image bs =
-    let m = middle bs in
-    let n = imageInputs bs in
-    let g = imageGates bs in
-    let k = imageOutputs bs in
-    never-otherwise 14 _ _
-    (never-otherwise 14 _ _ (never-unless 14 (lengthRight bs) 1 0 (λ e. omega arith))
-    (never-otherwise 14 _ _ (never-unless 14 (eqb (imageFormat bs) knownFormat) 2 0 (λ e. omega arith))
-    (never-otherwise 14 _ _
-    (never-unless 14 (countsInRange n g k) 3 0 (λ e. omega arith))
-    (never-unless 14 (backRight bs) 4 0 (λ e. omega arith)))))
-    (never-otherwise 14 _ _ (never-lowest 14 (gateRefusal m n) g (never-gate m n)) (never-lowest 14 (outputRefusal m n g) k (never-output m n g)))

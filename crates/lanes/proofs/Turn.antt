@@ -1,26 +1,15 @@
 -- A gate's pins gone through one by one, in one lane: what holds before the first, what a turn keeps, and what holds after the last. Assumes nothing.
 use Prim.Native.Nat.{ℕ, _+_, _*_, _%_, _≤_, _<_}
-use mathlib.Core.List.{List, [], _∷_, _++_, map, map-append}
-use mathlib.Core.Path.{_≡_, refl, sym, ap, ap₂, subst, _∙_}
-use native.Mathlib.Numerals.{add-one}
+use mathlib.Core.List.{List, [], _∷_, _++_, map}
+use mathlib.Core.Path.{_≡_, refl, sym, ap, subst, _∙_}
 use native.Mathlib.Omega.{arith}
 use borrow.Author.Count.{below-more}
 use lib.ListN.{length, getD, take, drop, set, length-drop, length-map}
-use lib.Seq.{getD-take, getD-drop, take-suc-set, length-take-le, getD-set-same, getD-set-other}
+use lib.Seq.{getD-take, getD-drop, length-take-le, getD-set-same, getD-set-other}
 use Rattle.figure.specs.Figure.{failureOf}
-use Rattle.figure.specs.Steps.{Pin, pinsOf, numbered, Split}
-use Rattle.figure.proofs.Split.{split-first, split-room, split-without, split-kept, split-last, pins-append}
+use Rattle.figure.specs.Steps.{Pin, numbered, Split}
+use Rattle.figure.proofs.Split.{split-first, split-room, split-without, split-kept, split-last, pins-more}
 use Rattle.lanes.specs.Lanes.{laneWord, lanePins, Readable}
-
--- a pin more in the arrays of sources and weights
-pub lane-more : (lanes : List ℕ) (l k : ℕ) (sources weights : List ℕ) (s a : ℕ) → k < length sources → k < length weights
-    → lanePins lanes l (k + 1) (set sources k s) (set weights k a) ≡ lanePins lanes l k sources weights ++ (record { word = laneWord lanes l s; weight = a } ∷ [])
-lane-more lanes l k sources weights s a m n =
-    let R : ℕ → ℕ = laneWord lanes l in
-    rw (add-one k)
-    (ap₂ pinsOf (ap (map R) (take-suc-set sources k s m) ∙ map-append R (take k sources) (s ∷ [])) (take-suc-set weights k a n)
-    ∙ pins-append (map R (take k sources)) (take k weights) (R s) a
-    (length-map (take k sources) R ∙ length-take-le k sources (omega arith) ∙ sym (length-take-le k weights (omega arith))))
 
 -- the sources of the first `count` pins of the gate whose words start at `base`
 abbrev pub gateSources : List ℕ → ℕ → ℕ → List ℕ
@@ -35,65 +24,65 @@ pub source-at : (area : List ℕ) (base count i : ℕ) → i < count → getD (g
 source-at area base count i inside = getD-take count (drop (base + 2) area) i 0 inside ∙ getD-drop (base + 2) area i 0
 
 -- lane l before pin i: the pins kept so far and those to come make the gate's word from this start
-abbrev pub Going : (area lanes : List ℕ) (base count l kept : ℕ) (sources weights : List ℕ) (start weight i : ℕ) → Type 0
-Going area lanes base count l kept sources weights start weight i =
+abbrev pub Going : (area lanes : List ℕ) (base count l kept : ℕ) (sources bits : List ℕ) (start bit i : ℕ) → Type 0
+Going area lanes base count l kept sources bits start bit i =
     Split (map (laneWord lanes l) (gateSources area base count)) start
-    (lanePins lanes l kept sources weights ++ numbered weight (map (laneWord lanes l) (drop i (gateSources area base count))))
+    (lanePins lanes l kept sources bits ++ numbered bit (map (laneWord lanes l) (drop i (gateSources area base count))))
 
 module _ (area lanes : List ℕ) (base count l : ℕ) (few : count ≤ 4) (long : base + 6 ≤ length area) where
   -- before the first pin
-  pub going-first : (sources weights : List ℕ) → Going area lanes base count l 0 sources weights 0 1 0
-  going-first sources weights =
+  pub going-first : (sources bits : List ℕ) → Going area lanes base count l 0 sources bits 0 1 0
+  going-first sources bits =
       split-first (map (laneWord lanes l) (gateSources area base count))
       (omega (arith, length-map (gateSources area base count) (laneWord lanes l), sources-many area base count few long))
 
   -- after the last
-  pub going-last : (kept : ℕ) (sources weights : List ℕ) (start weight i : ℕ) → count ≤ i → Going area lanes base count l kept sources weights start weight i
-      → Split (map (laneWord lanes l) (gateSources area base count)) start (lanePins lanes l kept sources weights)
-  going-last kept sources weights start weight i end before =
-      split-last (map (laneWord lanes l) (gateSources area base count)) (laneWord lanes l) (gateSources area base count) i weight start
-      (lanePins lanes l kept sources weights)
+  pub going-last : (kept : ℕ) (sources bits : List ℕ) (start bit i : ℕ) → count ≤ i → Going area lanes base count l kept sources bits start bit i
+      → Split (map (laneWord lanes l) (gateSources area base count)) start (lanePins lanes l kept sources bits)
+  going-last kept sources bits start bit i end before =
+      split-last (map (laneWord lanes l) (gateSources area base count)) (laneWord lanes l) (gateSources area base count) i bit start
+      (lanePins lanes l kept sources bits)
       (omega (arith, sources-many area base count few long))
       before
 
-  module _ (kept : ℕ) (sources weights : List ℕ) (start weight i : ℕ) (inside : i < count)
-      (before : Going area lanes base count l kept sources weights start weight i) where
+  module _ (kept : ℕ) (sources bits : List ℕ) (start bit i : ℕ) (inside : i < count)
+      (before : Going area lanes base count l kept sources bits start bit i) where
     -- the start leaves room for the pins
     pub going-start : start ≤ 15
     going-start = omega (arith, before .fits)
 
-    -- and so does the next pin's weight
-    pub going-room : weight ≤ 15
+    -- and so does the next pin's bit
+    pub going-room : bit ≤ 15
     going-room =
-        split-room (map (laneWord lanes l) (gateSources area base count)) (laneWord lanes l) (gateSources area base count) i weight start
-        (lanePins lanes l kept sources weights)
+        split-room (map (laneWord lanes l) (gateSources area base count)) (laneWord lanes l) (gateSources area base count) i bit start
+        (lanePins lanes l kept sources bits)
         (omega (arith, sources-many area base count few long))
         before
 
     -- a pin that cannot fail moves the start
     pub going-input : (source : ℕ) → getD area (base + 2 + i) 0 ≡ source → failureOf (laneWord lanes l source) ≡ 0
-        → Going area lanes base count l kept sources weights (start + laneWord lanes l source % 2 * weight) (weight * 2) (i + 1)
+        → Going area lanes base count l kept sources bits (start + laneWord lanes l source % 2 * bit) (bit * 2) (i + 1)
     going-input source here sure =
         let at : getD (gateSources area base count) i 0 ≡ source = source-at area base count i inside ∙ here in
-        subst (λ (s : ℕ). Going area lanes base count l kept sources weights (start + laneWord lanes l s % 2 * weight) (weight * 2) (i + 1)) at
-        (split-without (map (laneWord lanes l) (gateSources area base count)) (laneWord lanes l) (gateSources area base count) i weight start
-        (lanePins lanes l kept sources weights)
+        subst (λ (s : ℕ). Going area lanes base count l kept sources bits (start + laneWord lanes l s % 2 * bit) (bit * 2) (i + 1)) at
+        (split-without (map (laneWord lanes l) (gateSources area base count)) (laneWord lanes l) (gateSources area base count) i bit start
+        (lanePins lanes l kept sources bits)
         (omega (arith, sources-many area base count few long))
         before
         (ap (λ (s : ℕ). failureOf (laneWord lanes l s)) at ∙ sure))
 
     -- any other is kept
-    pub going-kept : (source : ℕ) → getD area (base + 2 + i) 0 ≡ source → kept < length sources → kept < length weights
-        → Going area lanes base count l (kept + 1) (set sources kept source) (set weights kept weight) start (weight * 2) (i + 1)
+    pub going-kept : (source : ℕ) → getD area (base + 2 + i) 0 ≡ source → kept < length sources → kept < length bits
+        → Going area lanes base count l (kept + 1) (set sources kept source) (set bits kept bit) start (bit * 2) (i + 1)
     going-kept source here m n =
         let words = map (laneWord lanes l) (gateSources area base count) in
-        let others = numbered (weight * 2) (map (laneWord lanes l) (drop (i + 1) (gateSources area base count))) in
+        let others = numbered (bit * 2) (map (laneWord lanes l) (drop (i + 1) (gateSources area base count))) in
         let at : getD (gateSources area base count) i 0 ≡ source = source-at area base count i inside ∙ here in
         subst (λ (ps : List Pin). Split words start (ps ++ others))
-        (ap (λ (s : ℕ). lanePins lanes l kept sources weights ++ (record { word = laneWord lanes l s; weight = weight } ∷ [])) at
-        ∙ sym (lane-more lanes l kept sources weights source weight m n))
-        (split-kept words (laneWord lanes l) (gateSources area base count) i weight start
-        (lanePins lanes l kept sources weights)
+        (ap (λ (s : ℕ). lanePins lanes l kept sources bits ++ (record { word = laneWord lanes l s; bit = bit } ∷ [])) at
+        ∙ sym (pins-more (laneWord lanes l) kept sources bits source bit m n))
+        (split-kept words (laneWord lanes l) (gateSources area base count) i bit start
+        (lanePins lanes l kept sources bits)
         (omega (arith, sources-many area base count few long))
         before)
 

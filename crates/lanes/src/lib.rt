@@ -1,13 +1,13 @@
-// The lanes: eight words for each source, 12 inputs and 1,024 gates at the most. Word 8 × s + l is that of source s under pattern l of a block.
-// A gate is worked out for the eight patterns together, so that its pins are looked up once.
+// The lanes: eight words for each source, 12 inputs and 1,024 gates at the most. Word 8 × s + l is that of source s under pattern l
+// of a block. A gate is worked out for the eight patterns together, so that its pins are looked up once.
 ghost use mathlib.Core.Path.{_≡_};
-ghost use mathlib.Core.List.{[], _∷_, map};
+ghost use mathlib.Core.List.{[]};
 ghost use Prim.Native.Nat.{ℕ, _+_, _*_, _/_, _%_, _<_, _≤_};
-ghost use lib.ListN.{length, getD, take, drop};
+ghost use lib.ListN.{length, getD};
 ghost use Rattle.rounding.specs.Rounding.{unitsInOne};
 ghost use Rattle.figure.specs.Figure.{failureOf};
-ghost use Rattle.figure.specs.Steps.{room, pinsWord, Split};
-ghost use Rattle.lanes.specs.Lanes.{laneWord, InputLanes, RowStored, Readable, lanePins, laneGate};
+ghost use Rattle.figure.specs.Steps.{pinsWord};
+ghost use Rattle.lanes.specs.Lanes.{laneWord, InputLanes, RowStored, Readable, LanesSplit, PinsReady, keptWord, laneGate};
 
 // The inputs' words in each lane, for the eight patterns from `first` on.
 pub fn input_lanes(lanes: &mut [u32; 8288], inputs: usize, first: usize)
@@ -23,24 +23,25 @@ pub fn input_lanes(lanes: &mut [u32; 8288], inputs: usize, first: usize)
     }
 }
 
-// A gate's pins in all lanes. An input never fails, so a pin that reads one only moves the index a lane starts from; the others are kept.
+// A gate's pins in all lanes. An input never fails, so a pin that reads one only moves the index that a lane starts from; the others
+// are kept.
 struct LanePins {
     kept: usize,
     sources: [usize; 4],
-    weights: [u32; 4],
+    bits: [u32; 4],
     starts: [u32; 8],
 }
 
-// What a pin of this weight adds to the start of each lane, where it reads this source.
-fn add_input(starts: &mut [u32; 8], lanes: &[u32; 8288], source: usize, weight: u32)
-    requires { ⌜ (source < 1036) × (weight ≤ 15) × (length (now starts) ≡ 8) ⌝ }
+// What a pin with this bit adds to the start of each lane, where it reads this source.
+fn add_input(starts: &mut [u32; 8], lanes: &[u32; 8288], source: usize, bit: u32)
+    requires { ⌜ (source < 1036) × (bit ≤ 15) × (length (now starts) ≡ 8) ⌝ }
     requires { ⌜ ((l : ℕ) → l < 8 → getD (now starts) l 0 ≤ 15) ⌝ }
-    ensures { λ _. ⌜ ((l : ℕ) → l < 8 → getD (now (starts .exit)) l 0 ≡ getD (now (starts .entry)) l 0 + laneWord (now (lanes .entry)) l source % 2 * weight) ⌝ }
+    ensures { λ _. ⌜ ((l : ℕ) → l < 8 → getD (now (starts .exit)) l 0 ≡ getD (now (starts .entry)) l 0 + laneWord (now (lanes .entry)) l source % 2 * bit) ⌝ }
     ensures { λ _. ⌜ length (now (starts .exit)) ≡ 8 ⌝ }
 {
     let mut l = 0;
     while l < 8 {
-        starts[l] += lanes[8 * source + l] % 2 * weight;
+        starts[l] += lanes[8 * source + l] % 2 * bit;
         l += 1;
     }
 }
@@ -57,30 +58,30 @@ fn split_lanes(
     requires { ⌜ ((s l : ℕ) → s < inputs → l < 8 → failureOf (laneWord (now lanes) l s) ≡ 0) ⌝ }
     requires { ⌜ ((i : ℕ) → i < count → Readable (now lanes) (getD (now area) (base + 2 + i) 0)) ⌝ }
     ensures { λ r. ⌜ (r .kept ≤ 4) × ((i : ℕ) → i < r .kept → Readable (now (lanes .entry)) (getD (r .sources) i 0)) ⌝ }
-    ensures { λ r. ⌜ ((l : ℕ) → l < 8 → Split (map (laneWord (now (lanes .entry)) l) (take count (drop (base + 2) (now (area .entry))))) (getD (r .starts) l 0) (lanePins (now (lanes .entry)) l (r .kept) (r .sources) (r .weights))) ⌝ }
+    ensures { λ r. ⌜ LanesSplit (now (area .entry)) (now (lanes .entry)) base count (r .starts) (r .kept) (r .sources) (r .bits) ⌝ }
 {
     let mut kept = 0;
     let mut sources = [0usize; 4];
-    let mut weights = [0u32; 4];
+    let mut bits = [0u32; 4];
     let mut starts = [0u32; 8];
-    let mut weight = 1;
+    let mut bit = 1;
     let mut i = 0;
     while i < count {
         let source = area[base + 2 + i] as usize;
         if source < inputs {
-            add_input(&mut starts, lanes, source, weight);
+            add_input(&mut starts, lanes, source, bit);
         } else {
             sources[kept] = source;
-            weights[kept] = weight;
+            bits[kept] = bit;
             kept += 1;
         }
-        weight *= 2;
+        bit *= 2;
         i += 1;
     }
     LanePins {
         kept: kept,
         sources: sources,
-        weights: weights,
+        bits: bits,
         starts: starts,
     }
 }
@@ -100,24 +101,39 @@ fn lanes_none(table: u32, flip: u32, starts: &[u32; 8]) -> [u32; 8]
     words
 }
 
-// And where one, two, three and four pins may fail: s is a pin's source, a its weight.
+// The words of the first `kept` sources in one lane, and 0 past them.
+fn kept_words(lanes: &[u32; 8288], sources: [usize; 4], kept: usize, lane: usize) -> [u32; 4]
+    requires { ⌜ (kept ≤ 4) × (lane < 8) ⌝ }
+    requires { ⌜ ((i : ℕ) → i < kept → Readable (now lanes) (getD sources i 0)) ⌝ }
+    ensures { λ r. ⌜ ((i : ℕ) → i < kept → getD r i 0 ≡ laneWord (now (lanes .entry)) lane (getD sources i 0)) ⌝ }
+{
+    let mut words = [0u32; 4];
+    let mut i = 0;
+    while i < kept {
+        words[i] = lanes[8 * sources[i] + lane];
+        i += 1;
+    }
+    words
+}
+
+// A gate's words in all lanes where the first one, two, three and four pins of the arrays may fail.
 fn lanes_one(
     lanes: &[u32; 8288],
     table: u32,
     flip: u32,
+    sources: [usize; 4],
+    bits: [u32; 4],
     starts: &[u32; 8],
-    s0: usize,
-    a0: u32,
 ) -> [u32; 8]
     requires { ⌜ flip ≤ unitsInOne ⌝ }
-    requires { ⌜ Readable (now lanes) s0 ⌝ }
-    requires { ⌜ ((l : ℕ) → l < 8 → getD (now starts) l 0 + a0 ≤ 15) ⌝ }
-    ensures { λ r. ⌜ ((l : ℕ) → l < 8 → getD r l 0 ≡ pinsWord unitsInOne table (getD (now (starts .entry)) l 0) (record { word = laneWord (now (lanes .entry)) l s0; weight = a0 } ∷ []) flip) ⌝ }
+    requires { ⌜ PinsReady (now lanes) (now starts) 1 sources bits ⌝ }
+    ensures { λ r. ⌜ ((l : ℕ) → l < 8 → getD r l 0 ≡ keptWord (now (lanes .entry)) (now (starts .entry)) 1 sources bits table flip l) ⌝ }
 {
     let mut words = [0u32; 8];
     let mut l = 0;
     while l < 8 {
-        words[l] = figure::word_one(table, starts[l], lanes[8 * s0 + l], a0, flip);
+        let pins = kept_words(lanes, sources, 1, l);
+        words[l] = figure::word_one(table, starts[l], pins, bits, flip);
         l += 1;
     }
     words
@@ -127,29 +143,19 @@ fn lanes_two(
     lanes: &[u32; 8288],
     table: u32,
     flip: u32,
+    sources: [usize; 4],
+    bits: [u32; 4],
     starts: &[u32; 8],
-    s0: usize,
-    a0: u32,
-    s1: usize,
-    a1: u32,
 ) -> [u32; 8]
     requires { ⌜ flip ≤ unitsInOne ⌝ }
-    requires { ⌜ (Readable (now lanes) s0) × (Readable (now lanes) s1) ⌝ }
-    requires { ⌜ ((l : ℕ) → l < 8 → getD (now starts) l 0 + a0 + a1 ≤ 15) ⌝ }
-    ensures { λ r. ⌜ ((l : ℕ) → l < 8 → getD r l 0 ≡ pinsWord unitsInOne table (getD (now (starts .entry)) l 0) (record { word = laneWord (now (lanes .entry)) l s0; weight = a0 } ∷ record { word = laneWord (now (lanes .entry)) l s1; weight = a1 } ∷ []) flip) ⌝ }
+    requires { ⌜ PinsReady (now lanes) (now starts) 2 sources bits ⌝ }
+    ensures { λ r. ⌜ ((l : ℕ) → l < 8 → getD r l 0 ≡ keptWord (now (lanes .entry)) (now (starts .entry)) 2 sources bits table flip l) ⌝ }
 {
     let mut words = [0u32; 8];
     let mut l = 0;
     while l < 8 {
-        words[l] = figure::word_two(
-            table,
-            starts[l],
-            lanes[8 * s0 + l],
-            a0,
-            lanes[8 * s1 + l],
-            a1,
-            flip,
-        );
+        let pins = kept_words(lanes, sources, 2, l);
+        words[l] = figure::word_two(table, starts[l], pins, bits, flip);
         l += 1;
     }
     words
@@ -159,33 +165,19 @@ fn lanes_three(
     lanes: &[u32; 8288],
     table: u32,
     flip: u32,
+    sources: [usize; 4],
+    bits: [u32; 4],
     starts: &[u32; 8],
-    s0: usize,
-    a0: u32,
-    s1: usize,
-    a1: u32,
-    s2: usize,
-    a2: u32,
 ) -> [u32; 8]
     requires { ⌜ flip ≤ unitsInOne ⌝ }
-    requires { ⌜ (Readable (now lanes) s0) × (Readable (now lanes) s1) × (Readable (now lanes) s2) ⌝ }
-    requires { ⌜ ((l : ℕ) → l < 8 → getD (now starts) l 0 + a0 + a1 + a2 ≤ 15) ⌝ }
-    ensures { λ r. ⌜ ((l : ℕ) → l < 8 → getD r l 0 ≡ pinsWord unitsInOne table (getD (now (starts .entry)) l 0) (record { word = laneWord (now (lanes .entry)) l s0; weight = a0 } ∷ record { word = laneWord (now (lanes .entry)) l s1; weight = a1 } ∷ record { word = laneWord (now (lanes .entry)) l s2; weight = a2 } ∷ []) flip) ⌝ }
+    requires { ⌜ PinsReady (now lanes) (now starts) 3 sources bits ⌝ }
+    ensures { λ r. ⌜ ((l : ℕ) → l < 8 → getD r l 0 ≡ keptWord (now (lanes .entry)) (now (starts .entry)) 3 sources bits table flip l) ⌝ }
 {
     let mut words = [0u32; 8];
     let mut l = 0;
     while l < 8 {
-        words[l] = figure::word_three(
-            table,
-            starts[l],
-            lanes[8 * s0 + l],
-            a0,
-            lanes[8 * s1 + l],
-            a1,
-            lanes[8 * s2 + l],
-            a2,
-            flip,
-        );
+        let pins = kept_words(lanes, sources, 3, l);
+        words[l] = figure::word_three(table, starts[l], pins, bits, flip);
         l += 1;
     }
     words
@@ -195,87 +187,44 @@ fn lanes_four(
     lanes: &[u32; 8288],
     table: u32,
     flip: u32,
+    sources: [usize; 4],
+    bits: [u32; 4],
     starts: &[u32; 8],
-    s0: usize,
-    a0: u32,
-    s1: usize,
-    a1: u32,
-    s2: usize,
-    a2: u32,
-    s3: usize,
-    a3: u32,
 ) -> [u32; 8]
     requires { ⌜ flip ≤ unitsInOne ⌝ }
-    requires { ⌜ (Readable (now lanes) s0) × (Readable (now lanes) s1) × (Readable (now lanes) s2) × (Readable (now lanes) s3) ⌝ }
-    requires { ⌜ ((l : ℕ) → l < 8 → getD (now starts) l 0 + a0 + a1 + a2 + a3 ≤ 15) ⌝ }
-    ensures { λ r. ⌜ ((l : ℕ) → l < 8 → getD r l 0 ≡ pinsWord unitsInOne table (getD (now (starts .entry)) l 0) (record { word = laneWord (now (lanes .entry)) l s0; weight = a0 } ∷ record { word = laneWord (now (lanes .entry)) l s1; weight = a1 } ∷ record { word = laneWord (now (lanes .entry)) l s2; weight = a2 } ∷ record { word = laneWord (now (lanes .entry)) l s3; weight = a3 } ∷ []) flip) ⌝ }
+    requires { ⌜ PinsReady (now lanes) (now starts) 4 sources bits ⌝ }
+    ensures { λ r. ⌜ ((l : ℕ) → l < 8 → getD r l 0 ≡ keptWord (now (lanes .entry)) (now (starts .entry)) 4 sources bits table flip l) ⌝ }
 {
     let mut words = [0u32; 8];
     let mut l = 0;
     while l < 8 {
-        words[l] = figure::word_four(
-            table,
-            starts[l],
-            lanes[8 * s0 + l],
-            a0,
-            lanes[8 * s1 + l],
-            a1,
-            lanes[8 * s2 + l],
-            a2,
-            lanes[8 * s3 + l],
-            a3,
-            flip,
-        );
+        let pins = kept_words(lanes, sources, 4, l);
+        words[l] = figure::word_four(table, starts[l], pins, bits, flip);
         l += 1;
     }
     words
 }
 
-// A gate's words in all lanes from its split pins: s has the sources that are kept, a their weights.
+// A gate's words in all lanes from its split pins: the first `kept` sources and bits.
 fn lane_words(
     lanes: &[u32; 8288],
     table: u32,
     flip: u32,
     kept: usize,
-    s: [usize; 4],
-    a: [u32; 4],
+    sources: [usize; 4],
+    bits: [u32; 4],
     starts: &[u32; 8],
 ) -> [u32; 8]
     requires { ⌜ (kept ≤ 4) × (flip ≤ unitsInOne) ⌝ }
-    requires { ⌜ ((i : ℕ) → i < kept → Readable (now lanes) (getD s i 0)) ⌝ }
-    requires { ⌜ ((l : ℕ) → l < 8 → getD (now starts) l 0 + room (lanePins (now lanes) l kept s a) ≤ 15) ⌝ }
-    ensures { λ r. ⌜ ((l : ℕ) → l < 8 → getD r l 0 ≡ pinsWord unitsInOne table (getD (now (starts .entry)) l 0) (lanePins (now (lanes .entry)) l kept s a) flip) ⌝ }
+    requires { ⌜ PinsReady (now lanes) (now starts) kept sources bits ⌝ }
+    ensures { λ r. ⌜ ((l : ℕ) → l < 8 → getD r l 0 ≡ keptWord (now (lanes .entry)) (now (starts .entry)) kept sources bits table flip l) ⌝ }
 {
     match kept {
         0 => lanes_none(table, flip, starts),
-        1 => lanes_one(lanes, table, flip, starts, s[0], a[0]),
-        2 => lanes_two(lanes, table, flip, starts, s[0], a[0], s[1], a[1]),
-        3 => lanes_three(
-            lanes,
-            table,
-            flip,
-            starts,
-            s[0],
-            a[0],
-            s[1],
-            a[1],
-            s[2],
-            a[2],
-        ),
-        _ => lanes_four(
-            lanes,
-            table,
-            flip,
-            starts,
-            s[0],
-            a[0],
-            s[1],
-            a[1],
-            s[2],
-            a[2],
-            s[3],
-            a[3],
-        ),
+        1 => lanes_one(lanes, table, flip, sources, bits, starts),
+        2 => lanes_two(lanes, table, flip, sources, bits, starts),
+        3 => lanes_three(lanes, table, flip, sources, bits, starts),
+        _ => lanes_four(lanes, table, flip, sources, bits, starts),
     }
 }
 
@@ -303,16 +252,16 @@ pub fn work_row(lanes: &mut [u32; 8288], area: &[u32], inputs: usize, base: usiz
     ensures { λ _. ⌜ length (now (lanes .exit)) ≡ 8288 ⌝ }
 {
     let pins = split_lanes(area, lanes, inputs, base, area[base] as usize);
-    let s = pins.sources;
-    let a = pins.weights;
+    let sources = pins.sources;
+    let bits = pins.bits;
     let starts = pins.starts;
     let words = lane_words(
         lanes,
         area[base + 1],
         area[base + 6],
         pins.kept,
-        s,
-        a,
+        sources,
+        bits,
         &starts,
     );
     store_row(lanes, source, words);

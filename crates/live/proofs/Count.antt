@@ -1,19 +1,16 @@
 -- Counting reads in a list of counts: one read, the reads of a gate, and those of all later gates. Assumes nothing.
 use Prim.Native.Nat.{ℕ, zero, suc, _+_, _-_, _*_, _≤_, _<_}
 use mathlib.Core.Bool.{Bool, true, false, cond}
-use mathlib.Core.List.{List, [], _∷_, _++_}
+use mathlib.Core.List.{List, [], _++_}
 use mathlib.Core.Path.{_≡_, refl, sym, ap, ap₂, _∙_}
 use native.Mathlib.Nat.{add-zero, sub-zero, sub-self}
 use native.Mathlib.Numerals.{add-one}
 use native.Mathlib.Omega.{arith}
-use lib.ListN.{length, getD, set, take, drop, replicate, length-take, length-append}
-use lib.Seq.{take-suc, getD-set-same, getD-set-other}
-use lib.Dec.{eqb}
-use borrow.Author.Tests.{eqb-true, eqb-false}
-use Rattle.figure.specs.Figure.{bitOf}
+use lib.ListN.{length, getD, drop, replicate, length-take, length-append}
 use Rattle.lists.specs.Lists.{count}
 use Rattle.netlist.specs.Live.{isLive, withGate, liveReadsFrom, liveReads, readers}
-use Rattle.netlist.proofs.Count.{count-append}
+use Rattle.lists.proofs.Parts.{zeros-at}
+use Rattle.lists.proofs.Counts.{count-length}
 use Rattle.netlist.proofs.Live.{ifLive, count-with}
 use Rattle.area.specs.Layout.{mostPins, mostGates, mostOutputs, mostSources}
 use Rattle.area.specs.Layout.{inputs, gates, outputs, pinCount, pins, usedPins, outputsIndex, outputWords}
@@ -24,37 +21,8 @@ use Rattle.live.specs.Counted.{Counts, Added, readsOf, gateReads}
 abbrev pub CountsOf : List ℕ → List ℕ → Type 0
 CountsOf xs rs = (s : ℕ) → getD xs s 0 ≡ count s rs
 
-zeros : (n s : ℕ) → _≡_ {A = ℕ} (getD (replicate n 0) s 0) 0
-zeros zero s = refl
-zeros (suc n) zero = refl
-zeros (suc n) (suc s) = zeros n s
-
 pub no-reads : Counts (replicate mostSources 0)
-no-reads = record { long = refl; few = λ s. omega (arith, zeros mostSources s) }
-
--- one read of source r
-one-read : (xs : List ℕ) (r s : ℕ) → r < length xs → getD (set xs r (getD xs r 0 + 1)) s 0 ≡ getD xs s 0 + bitOf (eqb s r)
-one-read xs r s l = go (eqb s r) refl
-  where
-    go : (b : Bool) → eqb s r ≡ b → getD (set xs r (getD xs r 0 + 1)) s 0 ≡ getD xs s 0 + bitOf b
-    go true e = rw (eqb-true s r e) (getD-set-same xs r (getD xs r 0 + 1) 0 l)
-    go false e = getD-set-other xs r s (getD xs r 0 + 1) 0 (eqb-false s r e) ∙ sym (add-zero (getD xs s 0))
-
--- a turn of the loop over reads
-pub read-turn : (old xs reads : List ℕ) (i r : ℕ) → i < length reads → getD reads i 0 ≡ r → r < length xs
-    → ((s : ℕ) → getD xs s 0 ≡ getD old s 0 + count s (take i reads))
-    → (s : ℕ) → getD (set xs r (getD xs r 0 + 1)) s 0 ≡ getD old s 0 + count s (take (i + 1) reads)
-read-turn old xs reads i r l e m h s =
-    rw (add-one i, take-suc reads i 0 l, e) (omega (arith, one-read xs r s m, h s, count-append s (take i reads) (r ∷ [])))
-
--- a list counts a source at most as often as it is long
-pub count-length : (s : ℕ) (rs : List ℕ) → count s rs ≤ length rs
-count-length s [] = omega arith
-count-length s (r ∷ rs) = omega (arith, count-length s rs, bit-small (eqb s r))
-  where
-    bit-small : (b : Bool) → bitOf b ≤ 1
-    bit-small true = omega arith
-    bit-small false = omega arith
+no-reads = record { long = refl; few = λ s. omega (arith, zeros-at mostSources s) }
 
 -- the reads by the outputs and by the live ones of the gates from j on
 abbrev pub readsAfter : List ℕ → ℕ → List ℕ
@@ -62,7 +30,7 @@ readsAfter ws j = liveReadsFrom (outputWords ws) (inputs ws + j) (gatesFrom ws [
 
 -- before the first gate that is looked at there are the outputs, after the last one all live readers
 pub first-reads : (ws xs : List ℕ) → Added (replicate mostSources 0) (outputWords ws) xs → CountsOf xs (readsAfter ws (gates ws))
-first-reads ws xs added s = rw (sub-self (gates ws)) (omega (arith, added .each s, zeros mostSources s))
+first-reads ws xs added s = rw (sub-self (gates ws)) (omega (arith, added .each s, zeros-at mostSources s))
 
 pub all-reads : (ws xs : List ℕ) → CountsOf xs (readsAfter ws 0) → (s : ℕ) → getD xs s 0 ≡ readers (netOf ws [] []) s
 unfolding readers liveReads

@@ -7,7 +7,7 @@ use lib.Dec.{leb}
 use lib.ListN.{length, getD}
 use borrow.Author.Tests.{leb-true}
 use Rattle.refusal.specs.declared.Judgement.the-variants.{Fine}
-use Rattle.refusal.proofs.Laws.{unless-fine, lowest-fine, Never, never-unless, never-lowest}
+use Rattle.refusal.proofs.Laws.{unless-fine, lowest-fine, Only, BelowRule, only-unless, only-lowest}
 use Rattle.netlist.specs.Netlist.{Netlist}
 use Rattle.netlist.specs.Live.{readers, SingleReaders}
 use Rattle.area.specs.Layout.{inputs, gates}
@@ -29,9 +29,9 @@ shared-single net e j l =
     leb-true (readers net (net .inputs + j)) 1
     (unless-fine _ 9 j (lowest-fine (gateShared (readers net) (net .inputs)) (length (net .gates)) j l e))
 
--- refusal 9 is not the number of an area that breaks a rule
-pub shared-never : (net : Netlist) → Never 14 (sharedJudgement net)
+-- it gives 9 alone
+pub only-shared : (net : Netlist) → Only BelowRule (sharedJudgement net)
 unfolding sharedJudgement
-shared-never net =
-    never-lowest 14 (gateShared (readers net) (net .inputs)) (length (net .gates)) (λ i.
-    never-unless 14 (leb (readers net (net .inputs + i)) 1) 9 i (λ e. omega arith))
+only-shared net =
+    only-lowest BelowRule (gateShared (readers net) (net .inputs)) (length (net .gates)) (λ i.
+    only-unless BelowRule (leb (readers net (net .inputs + i)) 1) 9 i (omega arith, omega arith))

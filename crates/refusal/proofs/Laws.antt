@@ -1,9 +1,9 @@
 -- The laws of judgements: what a whole says of its parts, the answer of a loop that stops at its first refusal, and numbers that are never given.
 -- Assumes nothing.
 use Prim.Native.Nat.{ℕ, zero, suc, _+_, _<_}
-use mathlib.Core.Path.{_≡_, refl, sym, ap, _∙_}
+use mathlib.Core.Path.{_≡_, refl, sym, ap, subst, _∙_}
 use mathlib.Core.Bool.{Bool, true, false}
-use mathlib.Core.Logic.{_≢_, ⊎-elim}
+use mathlib.Core.Logic.{⊎-elim}
 use native.Mathlib.Numerals.{add-one}
 use native.Mathlib.Omega.{arith}
 use native.Mathlib.Nat.{not-suc-le-zero, eq-or-lt-of-le}
@@ -67,25 +67,29 @@ module _ (f : ℕ → Judgement) where
   pub lowest-answer : (k j a p : ℕ) → j < k → lowest f j ≡ Fine → f j ≡ Refused a p → Refused a p ≡ lowest f k
   lowest-answer k j a p l e h = sym (lowest-refused k j a p l e h)
 
--- a judgement that is no refusal with that number
-abbrev pub Never : ℕ → Judgement → Type 0
-Never n v = (place : ℕ) → v ≢ Refused n place
+-- the numbers that a judgement may give: of those that its parts may give
+abbrev pub Only : (ℕ → Type 0) → Judgement → Type 0
+Only P v = (number place : ℕ) → v ≡ Refused number place → P number
+
+pub only-fine : (P : ℕ → Type 0) → Only P Fine
+only-fine P number place e = never-both Fine number place refl e
 
 abbrev number-of : Judgement → ℕ
 number-of Fine = 0
 number-of (Refused number place) = number
 
-pub never-fine : (n : ℕ) → Never n Fine
-never-fine n place e = never-both Fine n place refl e
+pub only-unless : (P : ℕ → Type 0) (c : Bool) (a p : ℕ) → P a → Only P (refuseUnless c a p)
+only-unless P true a p h = only-fine P
+only-unless P false a p h = λ number place e. subst P (ap number-of e) h
 
-pub never-unless : (n : ℕ) (c : Bool) (a p : ℕ) → a ≢ n → Never n (refuseUnless c a p)
-never-unless n true a p other place e = never-fine n place e
-never-unless n false a p other place e = other (ap number-of e)
+pub only-otherwise : (P : ℕ → Type 0) (v w : Judgement) → Only P v → Only P w → Only P (otherwise v w)
+only-otherwise P Fine w first second = second
+only-otherwise P (Refused a p) w first second = first
 
-pub never-otherwise : (n : ℕ) (v w : Judgement) → Never n v → Never n w → Never n (otherwise v w)
-never-otherwise n Fine w first second = second
-never-otherwise n (Refused a p) w first second = first
+pub only-lowest : (P : ℕ → Type 0) (f : ℕ → Judgement) (k : ℕ) → ((i : ℕ) → Only P (f i)) → Only P (lowest f k)
+only-lowest P f zero each = only-fine P
+only-lowest P f (suc k) each = only-otherwise P (lowest f k) (f k) (only-lowest P f k each) (each k)
 
-pub never-lowest : (n : ℕ) (f : ℕ → Judgement) (k : ℕ) → ((i : ℕ) → Never n (f i)) → Never n (lowest f k)
-never-lowest n f zero each = never-fine n
-never-lowest n f (suc k) each = never-otherwise n (lowest f k) (f k) (never-lowest n f k each) (each k)
+-- the numbers of the input and of the room, 1 to 13: what a call may give where the area keeps its rules
+abbrev pub BelowRule : ℕ → Type 0
+BelowRule number = (0 < number) × (number < 14)

@@ -2,5 +2,4 @@ pub mod Frame
 pub mod Pattern
 pub mod Sound
 pub mod Loops
-pub mod Bit
 pub mod Pinned

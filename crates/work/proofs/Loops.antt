@@ -1,45 +1,20 @@
--- What the loops over pins, outputs and gates use of a sound area. Assumes nothing.
-use Prim.Native.Nat.{ℕ, zero, suc, _+_, _-_, _*_, _<_}
+-- A turn of each loop over outputs, gates and pins, and the steps of the calls put together. Assumes nothing.
+use Prim.Native.Nat.{ℕ, suc, _+_, _-_, _<_}
 use mathlib.Core.Path.{_≡_, refl, sym, ap, ap₂, _∙_}
 use mathlib.Core.Bool.{Bool, true, false, _||_}
-use mathlib.Core.List.{List, [], _∷_}
+use mathlib.Core.List.{List}
 use native.Mathlib.Numerals.{add-one}
+use native.Mathlib.Nat.{sub-zero}
 use native.Mathlib.Omega.{arith}
 use borrow.Author.Tests.{eq-eqb, ne-eqb}
-use native.Mathlib.Nat.{sub-zero}
-use lib.ListN.{length, getD, take, drop, set, length-take, length-drop, length-set}
-use lib.Seq.{getD-take, getD-drop, drop-cons, take-take}
+use lib.ListN.{length, getD, drop, set, length-set}
+use lib.Seq.{drop-cons}
 use Rattle.rounding.specs.Rounding.{unitsInOne}
 use Rattle.figure.specs.Figure.{outputStep, failureOf}
-use Rattle.area.specs.Layout.{inputs, gates, outputs, patternIndex, pattern, pinCount, pinsIndex, pins, flipIndex, usedPins, outputsIndex, outputWords}
-use Rattle.area.specs.Layout.{sourceWord}
-use Rattle.area.specs.Rules.{Sound}
-use Rattle.work.specs.Work.{workGate, workGates, workReliability, readsMarked, workIf, markIf, workMarked, markOf, invertBit, toggleWords, setWords}
+use Rattle.area.specs.Layout.{inputs, gates, patternIndex, pattern, flipIndex, usedPins}
 use Rattle.area.specs.Figures.{productFrom}
+use Rattle.work.specs.Work.{workGate, workGates, workReliability, readsMarked, workIf, markIf, workMarked, markOf, invertBit, toggleWords, setWords}
 use Rattle.work.proofs.Frame.{same-gates, same-work-gate, same-store-pattern, same-store-flip}
-use Rattle.work.proofs.Sound.{used-pin-below}
-
-module _ (ws : List ℕ) (s : Sound ws) (j : ℕ) (below : j < gates ws) where
-  -- a pin's word in its place
-  pub pin-at : (i : ℕ) → i < 4 → getD ws (pinsIndex j + i) 0 ≡ getD (pins ws j) i 0
-  pin-at i l = sym (getD-take 4 (drop (pinsIndex j) ws) i 0 l ∙ getD-drop (pinsIndex j) ws i 0)
-
-  -- a used pin reads a source
-  pub pin-source : (i : ℕ) → i < pinCount ws j → getD ws (pinsIndex j + i) 0 < inputs ws + gates ws
-  pin-source i l =
-      let g = s .gate j below in
-      omega (arith, pin-at i (omega (arith, g .pin-count)), g .pins-below i l)
-
-  -- the used pins as they stand in the area
-  pub used-at : take (pinCount ws j) (drop (pinsIndex j) ws) ≡ usedPins ws j
-  used-at = sym (take-take (pinCount ws j) 4 (drop (pinsIndex j) ws) (s .gate j below .pin-count))
-
--- an output's word in its place
-pub output-at : (ws : List ℕ) (k : ℕ) → k < outputs ws → getD ws (outputsIndex (gates ws) + k) 0 ≡ getD (outputWords ws) k 0
-output-at ws k l = sym (getD-take (outputs ws) (drop (outputsIndex (gates ws)) ws) k 0 l ∙ getD-drop (outputsIndex (gates ws)) ws k 0)
-
-pub output-count : (ws : List ℕ) → Sound ws → length (outputWords ws) ≡ outputs ws
-output-count ws s = omega (arith, length-take (outputs ws) (drop (outputsIndex (gates ws)) ws), length-drop (outputsIndex (gates ws)) ws, s .long)
 
 -- one output more
 pub product-turn : (read : ℕ → ℕ) (os : List ℕ) (k r next : ℕ) {target : ℕ} → k < length os → next ≡ outputStep unitsInOne r (failureOf (read (getD os k 0)))
@@ -52,10 +27,6 @@ pub gates-turn : (ws vs : List ℕ) (j m : ℕ) {target : List ℕ} → j < m �
 gates-turn ws vs j m l e t =
     let next : m - j ≡ suc (m - (j + 1)) = omega arith in
     rw (e, add-one j) (rw (next, add-one j) at t)
-
--- a word of a part in its place
-pub part-at : (ws : List ℕ) (from count i : ℕ) → i < count → getD (take count (drop from ws)) i 0 ≡ getD ws (from + i) 0
-part-at ws from count i l = getD-take count (drop from ws) i 0 l ∙ getD-drop from ws i 0
 
 -- a pin that reads a marked source, and one that does not
 pub marked-here : (marks ps : List ℕ) (i : ℕ) → i < length ps → getD marks (getD ps i 0) 0 ≡ 1 → readsMarked marks (drop i ps) ≡ true
@@ -83,9 +54,12 @@ pub toggle-is : (ws marks vs : List ℕ) (i q : ℕ) → q ≡ invertBit (patter
     → vs ≡ workMarked (set ws patternIndex q) marks 0 (gates (set ws patternIndex q) - 0) → workReliability vs ≡ toggleWords ws i
 unfolding toggleWords
 toggle-is ws marks vs i q e m v =
-    let count : gates (set ws patternIndex q) - 0 ≡ gates ws = sub-zero (gates (set ws patternIndex q)) ∙ same-gates ws (set ws patternIndex q) (same-store-pattern ws q) in
+    let count : gates (set ws patternIndex q) - 0 ≡ gates ws
+    = sub-zero (gates (set ws patternIndex q)) ∙ same-gates ws (set ws patternIndex q) (same-store-pattern ws q) in
     ap workReliability
-    (v ∙ ap₂ (λ (xs : List ℕ) (k : ℕ). workMarked (set ws patternIndex q) xs 0 k) m count ∙ ap (λ (x : ℕ). workMarked (set ws patternIndex x) (markOf i) 0 (gates ws)) e)
+    (v
+    ∙ ap₂ (λ (xs : List ℕ) (k : ℕ). workMarked (set ws patternIndex q) xs 0 k) m count
+    ∙ ap (λ (x : ℕ). workMarked (set ws patternIndex x) (markOf i) 0 (gates ws)) e)
 
 -- the steps of setting a flip, put together
 pub set-is : (ws marks us vs : List ℕ) (g units s : ℕ) → g < gates ws → s ≡ inputs ws + g → marks ≡ markOf s

@@ -1,15 +1,39 @@
 -- A pattern with one bit inverted: it stays below 2^n, that bit is the other one, and every other bit is as it was. Assumes nothing.
 use Prim.Native.Nat.{ℕ, suc, _+_, _-_, _*_, _/_, _%_, _^_, _≤_, _<_}
 use mathlib.Core.Bool.{Bool, true, false, cond}
+use mathlib.Core.List.{List}
 use mathlib.Core.Logic.{_≢_, by-cases}
 use mathlib.Core.Path.{_≡_, refl, sym, ap, _∙_}
-use native.Mathlib.Nat.{div-add-mod', mod-lt, div-lt-iff-lt-mul, mul-le-mul-right, pow-suc, div-div-eq-div-mul, add-mul-div-right, add-div-right, add-mul-mod-self-right}
+use native.Mathlib.Nat.{div-add-mod', div-mul-le-self, mod-lt, mod-eq-of-lt, div-lt-iff-lt-mul, one-mul, mul-le-mul-right, pow-suc, lt-of-lt-of-le}
+use native.Mathlib.Nat.{div-div-eq-div-mul, add-mul-div-right, add-div-right, add-mul-mod-self-right}
 use native.Mathlib.Decide.{decLt}
 use native.Mathlib.Omega.{arith}
 use lib.Dec.{eqb}
-use lib.Pow.{pow-pos, pow-add}
+use lib.Pow.{pow-pos, pow-add, pow-mono}
 use borrow.Author.Tests.{eqb-true, eqb-false}
+use Rattle.area.specs.Layout.{mostInputs, mostPatterns, inputs, pattern}
+use Rattle.area.specs.Rules.{Workable}
 use Rattle.work.specs.Work.{invertBit}
+
+-- ---- patterns and bits that fit
+
+-- one bit, and 1 shifted to its place as the machine has it
+pub bit-fits : (i : ℕ) → i < mostInputs → 2 ^ i ≤ mostPatterns
+bit-fits i h = pow-mono {i = i} {j = mostInputs} (omega arith)
+
+pub bit-is : (i : ℕ) → i < mostInputs → 1 * 2 ^ i % 2 ^ 32 ≡ 2 ^ i
+bit-is i h = ap (λ (x : ℕ). x % 2 ^ 32) (one-mul (2 ^ i)) ∙ mod-eq-of-lt (omega (arith, bit-fits i h))
+
+-- a set bit is at most the pattern
+pub bit-below : (q i : ℕ) → q / 2 ^ i % 2 ≡ 1 → 2 ^ i ≤ q
+bit-below q i e =
+    let some : 1 ≤ q / 2 ^ i = omega arith in
+    omega (arith, one-mul (2 ^ i), mul-le-mul-right {m = 1} {n = q / 2 ^ i} (2 ^ i) some, div-mul-le-self q (2 ^ i))
+
+pub pattern-small : (ws : List ℕ) → Workable ws → pattern ws < mostPatterns
+pattern-small ws w = lt-of-lt-of-le (w .figures .pattern-fits) (pow-mono {i = inputs ws} {j = mostInputs} (w .net .inputs-fit))
+
+-- ---- one bit inverted
 
 -- the powers of two beside i: 2^n is 2^i, twice, so many times more
 power-above : (i n : ℕ) → i < n → 2 ^ n ≡ 2 ^ (n - suc i) * 2 * 2 ^ i
@@ -66,10 +90,7 @@ taken : (q i : ℕ) → q / 2 ^ i % 2 ≡ 1 → (q - 2 ^ i + 2 ^ i ≡ q) × ((q
 taken q i bit =
     let p = 2 ^ i in
     let r = q - p in
-    let split : q / p * p + q % p ≡ q = div-add-mod' q p in
-    let some : 1 ≤ q / p = omega arith in
-    let fits : p ≤ q = omega (arith, mul-le-mul-right {m = 1} {n = q / p} p some) in
-    let back : r + p ≡ q = omega arith in
+    let back : r + p ≡ q = omega (arith, bit-below q i bit) in
     let more : q / p ≡ r / p + 1 = ap (λ (x : ℕ). x / p) (sym back) ∙ add-div-right r (pow-pos i) in
     (back, omega arith)
 

@@ -1,13 +1,12 @@
 -- Working out: a gate, all gates, the gates that depend on a source, the reliability. Each step reads the words as they are then, so an area
 -- that no call left gets the same steps. Document 01, "The figures" and "Work area and calls".
-use Prim.Native.Nat.{ℕ, zero, suc, _+_, _-_, _*_, _/_, _%_, _^_}
-use mathlib.Core.Bool.{Bool, true, false, cond, _||_}
+use Prim.Native.Nat.{ℕ, zero, suc, _+_, _-_, _/_, _%_, _^_}
+use mathlib.Core.Bool.{Bool, false, cond, _||_}
 use mathlib.Core.List.{List, [], _∷_}
 use lib.ListN.{getD, set, replicate}
-use lib.Dec.{eqb, ltb}
+use lib.Dec.{eqb}
 use Rattle.rounding.specs.Rounding.{unitsInOne}
-use Rattle.area.specs.Layout.{mostSources, inputs, gates, patternIndex, pattern, reliabilityIndex, table, flipIndex, flip, figureIndex, usedPins, outputWords}
-use Rattle.area.specs.Layout.{sourceWord}
+use Rattle.area.specs.Layout.{mostSources, inputs, gates, patternIndex, pattern, reliabilityIndex, flipIndex, figureIndex, usedPins, outputWords, sourceWord}
 use Rattle.area.specs.Figures.{gateWordFrom, productFrom}
 
 -- gate j's figure word by the rule, from the words held
@@ -54,7 +53,7 @@ workMarked ws marks j (suc k) =
     (suc j)
     k
 
--- room for the marks of all sources: 12 inputs and 1,024 gates; only source s is marked
+-- the marks of all sources: only source s is marked
 abbrev pub markOf : ℕ → List ℕ
 markOf s = set (replicate mostSources 0) s 1
 
@@ -62,7 +61,7 @@ markOf s = set (replicate mostSources 0) s 1
 unfoldable pub invertBit : ℕ → ℕ → ℕ
 invertBit q i = cond (eqb (q / 2 ^ i % 2) 1) (q - 2 ^ i) (q + 2 ^ i)
 
--- input i toggled: its bit inverted, the gates that depend on it worked out in order, then the reliability
+-- document 01's "turn one input over": input i's bit inverted, the gates that depend on it worked out in order, then the reliability
 unfoldable pub toggleWords : List ℕ → ℕ → List ℕ
 toggleWords ws i =
     workReliability (workMarked (set ws patternIndex (invertBit (pattern ws) i)) (markOf i) 0 (gates ws))

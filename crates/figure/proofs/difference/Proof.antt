@@ -1,16 +1,18 @@
-use borrow.Author.Tests.{eq-eqb, ne-eqb}
+-- `figure::difference` meets its contract. Assumes nothing.
+use mathlib.Core.Path.{sym, _∙_}
 use borrow.Author.Needs.{needs}
+use borrow.Author.Tests.{eq-eqb, ne-eqb}
 use Rattle.figure.proofs.difference.Statement.{statement}
 use Rattle.figure.proofs.difference.Tie as tie
 
-shr-if1 : tie.Need-shr-if1
-shr-if1 c = search needs
+answer-at-requires : tie.Need-answer-at-requires
+answer-at-requires c κs = search needs
 
 returns : tie.Need-returns
-returns c = simp (eq-eqb _ _ (c .if1 .taken))
+returns c = simp (eq-eqb _ _ (sym (c .before .answer-at .ensures) ∙ c .if1 .taken))
 
 returns-2 : tie.Need-returns-2
-returns-2 c = simp (ne-eqb _ _ (c .if1 .left))
+returns-2 c = simp (ne-eqb _ _ (rw (c .before .answer-at .ensures) at (c .if1 .left)))
 
 pub difference-spec : {M : Type 1} → statement M
-difference-spec = tie.close (tie.spec shr-if1 returns returns-2)
+difference-spec = tie.close (tie.spec answer-at-requires returns returns-2)

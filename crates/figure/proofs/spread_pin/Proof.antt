@@ -1,3 +1,4 @@
+-- `figure::spread_pin` meets its contract: after i turns the first 2 × i places hold the first i indices spread. Assumes nothing.
 use Prim.Native.Nat.{ℕ, _+_, _-_, _*_, _%_, _≤_}
 use mathlib.Core.Path.{_≡_, refl}
 use native.Mathlib.Omega.{arith}
@@ -10,17 +11,37 @@ use Rattle.figure.proofs.spread_pin.Statement.{statement}
 use Rattle.figure.proofs.spread_pin.Tie as tie
 
 abbrev Inv-loop : tie.InvT-loop
-Inv-loop used word weight indices right wrong spread₀ i₀ spread i =
+Inv-loop used words bits pin indices bit right wrong spread₀ i₀ spread i =
     (i ≤ used) × (length spread ≡ 16) × (take (2 * i) spread ≡ spreadStep right wrong (take i indices))
 
 abbrev μ-loop : tie.MeasureT-loop
-μ-loop used word weight indices right wrong spread₀ i₀ spread i = used - i
+μ-loop used words bits pin indices bit right wrong spread₀ i₀ spread i =
+    used - i
+
+-- a pin that is right adds at most its bit
+pin-adds : (s : tie.Start Inv-loop μ-loop)
+    → getD (s .args .words .now) (s .args .pin) 0 % 2 * getD (s .args .bits .now) (s .args .pin) 0 ≤ getD (s .args .bits .now) (s .args .pin) 0
+pin-adds s = added (getD (s .args .words .now) (s .args .pin) 0) (getD (s .args .bits .now) (s .args .pin) 0)
+
+mul-bit : tie.Need-mul-bit Inv-loop μ-loop
+mul-bit c = search needs
+
+element-copy-out-bit : tie.Need-element-copy-out-bit Inv-loop μ-loop
+element-copy-out-bit c = search needs
 
 mul-right : tie.Need-mul-right Inv-loop μ-loop
-mul-right c = omega (arith, added (c .args .word) (c .args .weight))
+mul-right c = search needs
+
+element-copy-out-right : tie.Need-element-copy-out-right Inv-loop μ-loop
+element-copy-out-right c = search needs
+
+mul-right-2 : tie.Need-mul-right-2 Inv-loop μ-loop
+mul-right-2 c =
+    let s = c .before .before in
+    omega (arith, s .pre .1 0 (omega arith), pin-adds s)
 
 sub-wrong : tie.Need-sub-wrong Inv-loop μ-loop
-sub-wrong c = added (c .args .word) (c .args .weight)
+sub-wrong c = pin-adds (c .before .before)
 
 loop-holds : tie.Need-loop-holds Inv-loop μ-loop
 loop-holds c = (omega arith, refl, refl)
@@ -33,8 +54,8 @@ array-read-x c = search needs
 
 add-spread : tie.Need-add-spread Inv-loop μ-loop
 add-spread c =
-    let a = c .before .before .args in
-    omega (arith, c .before .before .pre .1 (c .before .loop .i) (omega arith), added (a .word) (a .weight))
+    let s = c .before .before .before .before in
+    omega (arith, s .pre .1 (c .before .loop .i) (omega arith), pin-adds s)
 
 mul-spread : tie.Need-mul-spread Inv-loop μ-loop
 mul-spread c = search needs
@@ -47,8 +68,8 @@ array-write-spread c = search needs
 
 add-spread-2 : tie.Need-add-spread-2 Inv-loop μ-loop
 add-spread-2 c =
-    let a = c .before .before .args in
-    omega (arith, c .before .before .pre .1 (c .before .loop .i) (omega arith), added (a .word) (a .weight))
+    let s = c .before .before .before .before in
+    omega (arith, s .pre .1 (c .before .loop .i) (omega arith), pin-adds s)
 
 mul-spread-3 : tie.Need-mul-spread-3 Inv-loop μ-loop
 mul-spread-3 c = search needs
@@ -66,20 +87,19 @@ add-i : tie.Need-add-i Inv-loop μ-loop
 add-i c = search needs
 
 loop-less : tie.Need-loop-less Inv-loop μ-loop
-loop-less c = omega arith
+loop-less c = search needs
 
 loop-again : tie.Need-loop-again Inv-loop μ-loop
 loop-again c =
     let l = c .before .loop in
-    let a = c .before .before .args in (
-      omega arith,
-      simp length-set (l .inv .1),
-      spread-turn (a .word % 2 * a .weight) (a .weight - a .word % 2 * a .weight) (a .t1) (l .spread) (l .i) (omega arith) (omega arith) (l .inv .2),
-    )
+    let a = c .before .before .before .before .args in
+    let bit = getD (a .bits .now) (a .pin) 0 in
+    let right = getD (a .words .now) (a .pin) 0 % 2 * bit in
+    (omega arith, simp length-set (l .inv .1), spread-turn right (bit - right) (a .t1) (l .spread) (l .i) (omega arith) (omega arith) (l .inv .2))
 
 returns : tie.Need-returns Inv-loop μ-loop
 returns c =
-    let end : c .before .loop .i ≡ c .before .before .args .used = omega arith in
+    let end : c .before .loop .i ≡ c .before .before .before .before .args .used = omega arith in
     rw end at (c .before .loop .inv .2)
 
 pub spread-pin-spec : {M : Type 1} → statement M
@@ -88,7 +108,11 @@ spread-pin-spec =
     (tie.spec
     Inv-loop
     μ-loop
+    mul-bit
+    element-copy-out-bit
     mul-right
+    element-copy-out-right
+    mul-right-2
     sub-wrong
     loop-holds
     mul-x

@@ -1,21 +1,32 @@
-use Prim.Native.Nat.{ℕ, _+_, _-_, _*_, _≤_}
+-- `figure::start_values` meets its contract: after i turns the first i values are filled in. Assumes nothing.
+use Prim.Native.Nat.{ℕ, _+_, _-_, _*_, _/_, _%_, _^_, _≤_}
+use mathlib.Core.Bool.{Bool}
 use mathlib.Core.Path.{_≡_}
 use mathlib.Core.List.{map}
 use native.Mathlib.Omega.{arith}
+use lib.Dec.{eqb}
 use lib.ListN.{length, getD, take, length-set}
 use Rattle.rounding.specs.Rounding.{unitsInOne}
 use Rattle.figure.specs.Steps.{differs}
 use Rattle.figure.proofs.Spread.{map-turn}
+use Rattle.figure.proofs.Under.{part₀, under-choices}
 use borrow.Author.Needs.{needs}
 use Rattle.figure.proofs.start_values.Statement.{statement}
 use Rattle.figure.proofs.start_values.Tie as tie
 
 abbrev Inv-loop : tie.InvT-loop
-Inv-loop table right used indices values₀ i₀ values i =
+Inv-loop table used indices right values₀ i₀ values i =
     (i ≤ used) × (length values ≡ 16) × (take i values ≡ map (differs unitsInOne table right) (take i indices))
 
 abbrev μ-loop : tie.MeasureT-loop
-μ-loop table right used indices values₀ i₀ values i = used - i
+μ-loop table used indices right values₀ i₀ values i =
+    used - i
+
+array-read-answer-at : tie.Need-array-read-answer-at Inv-loop μ-loop
+array-read-answer-at c = search needs
+
+answer-at-requires : tie.Need-answer-at-requires Inv-loop μ-loop
+answer-at-requires c κs = c .pre .1 0 (omega arith)
 
 loop-holds : tie.Need-loop-holds Inv-loop μ-loop
 loop-holds c = search needs
@@ -27,7 +38,7 @@ array-read-difference : tie.Need-array-read-difference Inv-loop μ-loop
 array-read-difference c = search needs
 
 difference-requires : tie.Need-difference-requires Inv-loop μ-loop
-difference-requires c κs = c .before .before .pre .1 (c .before .loop .i) (omega arith)
+difference-requires c κs = c .before .before .before .pre .1 (c .before .loop .i) (omega arith)
 
 mul-values : tie.Need-mul-values Inv-loop μ-loop
 mul-values c = search needs
@@ -44,17 +55,24 @@ loop-less c = search needs
 loop-again : tie.Need-loop-again Inv-loop μ-loop
 loop-again c =
     let l = c .before .before .loop in
-    let a = c .before .before .before .args in (
+    let a = c .before .before .before .before .args in
+    let right = c .before .before .before .answer-at .result in (
       omega arith,
       simp length-set (l .inv .1),
-      rw (c .difference .ensures)
-          (map-turn (differs unitsInOne (a .table) (a .right)) (a .t3) (l .values) (l .i) (omega arith) (omega arith) (l .inv .2)),
+      rw (c .difference .ensures) (map-turn (differs unitsInOne (a .table) right) (a .t2) (l .values) (l .i) (omega arith) (omega arith) (l .inv .2)),
     )
 
 returns : tie.Need-returns Inv-loop μ-loop
 returns c =
-    let end : c .before .loop .i ≡ c .before .before .args .used = omega arith in
-    rw end at (c .before .loop .inv .2)
+    let a = c .before .before .before .args in
+    let values = c .before .loop .values in
+    let right = c .before .before .answer-at .result in
+    let test : ℕ → Bool = λ x. eqb (a .table / 2 ^ x % 2) right in
+    let end : c .before .loop .i ≡ a .used = omega arith in
+    let done : take (a .used) values ≡ map (differs unitsInOne (a .table) right) (take (a .used) (a .t2)) = rw end at (c .before .loop .inv .2) in (
+      rw (c .before .before .answer-at .ensures) at done,
+      part₀ unitsInOne values _ (a .used) done (under-choices unitsInOne test (take (a .used) (a .t2))),
+    )
 
 pub start-values-spec : {M : Type 1} → statement M
 start-values-spec =
@@ -62,6 +80,8 @@ start-values-spec =
     (tie.spec
     Inv-loop
     μ-loop
+    array-read-answer-at
+    answer-at-requires
     loop-holds
     mul-difference
     array-read-difference

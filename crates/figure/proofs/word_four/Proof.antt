@@ -1,164 +1,100 @@
--- `figure::word_four` meets its contract: each spreading, the start and each fold step hands its part of the array on. Assumes nothing.
-use Prim.Native.Nat.{ℕ, _+_, _*_, _/_, _%_, _^_, _≤_, _<_}
-use mathlib.Core.Path.{_≡_, refl, sym, ap, ap₂, _∙_}
-use mathlib.Core.List.{List, [], _∷_, map}
+-- `figure::word_four` meets its contract: each step hands its part of the array on. Assumes nothing.
+use Prim.Native.Nat.{ℕ}
+use mathlib.Core.Path.{_≡_, refl, _∙_}
+use mathlib.Core.List.{List, [], _∷_}
 use native.Mathlib.Omega.{arith}
 use borrow.Author.Needs.{needs}
-use lib.Dec.{eqb}
-use lib.ListN.{getD, take, replicate}
-use lib.Seq.{getD-take}
-use Rattle.rounding.specs.Rounding.{unitsInOne}
-use Rattle.figure.specs.Figure.{foldStep, gateStep}
-use Rattle.figure.specs.Steps.{Pin, spreadPin, spreadPins, differs, rightBit, lastValue, pinsWord}
-use Rattle.figure.proofs.Under.{Under, part, part₀, under-pins, under-fold, under-choices}
-use Rattle.figure.proofs.Split.{first-index}
+use lib.ListN.{take, drop, replicate}
+use Rattle.figure.specs.Steps.{Pin, firstPins, spreadPins}
+use Rattle.figure.proofs.Word.{spread-room, spread-small, word-made}
 use Rattle.figure.proofs.word_four.Statement.{statement}
 use Rattle.figure.proofs.word_four.Tie as tie
 
--- the pins from the last one on, and all of them
-abbrev pins3 : tie.Start → List Pin
-pins3 s = record { word = s .args .w3; weight = s .args .a3 } ∷ []
+-- the pins from pin k on
+abbrev pins : tie.Start → ℕ → List Pin
+pins s k = drop k (firstPins 4 (s .args .t3) (s .args .t4))
 
-abbrev pins2 : tie.Start → List Pin
-pins2 s = record { word = s .args .w2; weight = s .args .a2 } ∷ pins3 s
+-- all of them have been spread
+abbrev entry : tie.After-spread-pin4 → tie.Start
+entry c = c .before .before .before .before .before .before
 
-abbrev pins1 : tie.Start → List Pin
-pins1 s = record { word = s .args .w1; weight = s .args .a1 } ∷ pins2 s
-
-abbrev pins0 : tie.Start → List Pin
-pins0 s = record { word = s .args .w0; weight = s .args .a0 } ∷ pins1 s
-
--- the indices after pin 3
-indices1 : (c : tie.After-spread-pin) → take 2 (c .spread-pin .result) ≡ spreadPins (pins3 (c .before)) (c .before .args .start ∷ [])
-indices1 c = c .spread-pin .ensures
-
--- the indices after pin 2
-indices2 : (c : tie.After-spread-pin2) → take 4 (c .spread-pin2 .result) ≡ spreadPins (pins2 (c .before .before)) (c .before .before .args .start ∷ [])
-indices2 c = c .spread-pin2 .ensures ∙ ap (spreadPin (c .before .before .args .w2) (c .before .before .args .a2)) (indices1 (c .before))
-
--- the indices after pin 1
-indices3 : (c : tie.After-spread-pin3) → take 8 (c .spread-pin3 .result) ≡ spreadPins (pins1 (c .before .before .before)) (c .before .before .before .args .start ∷ [])
-indices3 c = c .spread-pin3 .ensures ∙ ap (spreadPin (c .before .before .before .args .w1) (c .before .before .before .args .a1)) (indices2 (c .before))
-
--- the indices after pin 0
-indices4 : (c : tie.After-spread-pin4) → take 16 (c .spread-pin4 .result) ≡ spreadPins (pins0 (c .before .before .before .before)) (c .before .before .before .before .args .start ∷ [])
-indices4 c = c .spread-pin4 .ensures ∙ ap (spreadPin (c .before .before .before .before .args .w0) (c .before .before .before .before .args .a0)) (indices3 (c .before))
-
--- the first of them is where every pin is right
-first : (c : tie.After-spread-pin4) → getD (c .spread-pin4 .result) 0 0 ≡ getD (spreadPins (pins0 (c .before .before .before .before)) (c .before .before .before .before .args .start ∷ [])) 0 0
-first c = sym (getD-take 16 (c .spread-pin4 .result) 0 0 (omega arith)) ∙ ap (λ (xs : List ℕ). getD xs 0 0) (indices4 c)
-
-right-is : (c : tie.After-spread-pin4) → c .before .before .before .before .args .table / 2 ^ getD (c .spread-pin4 .result) 0 0 % 2 ≡ rightBit (c .before .before .before .before .args .table) (c .before .before .before .before .args .start) (pins0 (c .before .before .before .before))
-right-is c = ap (λ (i : ℕ). c .before .before .before .before .args .table / 2 ^ i % 2) (first c ∙ first-index (pins0 (c .before .before .before .before)) (c .before .before .before .before .args .start))
-
--- the start values
-start : (c : tie.Start) → List ℕ
-start c = map (differs unitsInOne (c .args .table) (rightBit (c .args .table) (c .args .start) (pins0 c))) (spreadPins (pins0 c) (c .args .start ∷ []))
-
-values0 : (c : tie.After-start-values) → take 16 (c .start-values .result) ≡ start (c .before .before .before .before .before)
-unfolding start
-values0 c =
-    c .start-values .ensures
-    ∙ ap₂ (λ (r : ℕ) (xs : List ℕ). map (differs unitsInOne (c .before .before .before .before .before .args .table) r) xs) (right-is (c .before)) (indices4 (c .before))
-
-fits0 : (c : tie.Start) → Under unitsInOne 0 (start c)
-unfolding start
-fits0 c = under-choices unitsInOne (λ (x : ℕ). eqb (c .args .table / 2 ^ x % 2) (rightBit (c .args .table) (c .args .start) (pins0 c))) (spreadPins (pins0 c) (c .args .start ∷ []))
-
--- the values after pin 0, and that none passes U
-values1 : (c : tie.After-fold-step) → take 8 (c .fold-step .result) ≡ foldStep unitsInOne ((c .before .before .before .before .before .before) .args .w0 / 2) (start (c .before .before .before .before .before .before))
-values1 c = c .fold-step .ensures ∙ ap (foldStep unitsInOne (c .before .before .before .before .before .before .args .w0 / 2)) (values0 (c .before))
-
-fits1 : (c : tie.Start) → Under unitsInOne 0 (foldStep unitsInOne (c .args .w0 / 2) (start c))
-fits1 c = under-fold unitsInOne (c .args .w0 / 2) (start c) (omega arith) (c .pre .1 .0) (fits0 c)
-
--- the values after pin 1, and that none passes U
-values2 : (c : tie.After-fold-step2) → take 4 (c .fold-step2 .result) ≡ foldStep unitsInOne ((c .before .before .before .before .before .before .before) .args .w1 / 2) (foldStep unitsInOne ((c .before .before .before .before .before .before .before) .args .w0 / 2) (start (c .before .before .before .before .before .before .before)))
-values2 c = c .fold-step2 .ensures ∙ ap (foldStep unitsInOne (c .before .before .before .before .before .before .before .args .w1 / 2)) (values1 (c .before))
-
-fits2 : (c : tie.Start) → Under unitsInOne 0 (foldStep unitsInOne (c .args .w1 / 2) (foldStep unitsInOne (c .args .w0 / 2) (start c)))
-fits2 c = under-fold unitsInOne (c .args .w1 / 2) (foldStep unitsInOne (c .args .w0 / 2) (start c)) (omega arith) (c .pre .1 .1) (fits1 c)
-
--- the values after pin 2, and that none passes U
-values3 : (c : tie.After-fold-step3) → take 2 (c .fold-step3 .result) ≡ foldStep unitsInOne ((c .before .before .before .before .before .before .before .before) .args .w2 / 2) (foldStep unitsInOne ((c .before .before .before .before .before .before .before .before) .args .w1 / 2) (foldStep unitsInOne ((c .before .before .before .before .before .before .before .before) .args .w0 / 2) (start (c .before .before .before .before .before .before .before .before))))
-values3 c = c .fold-step3 .ensures ∙ ap (foldStep unitsInOne (c .before .before .before .before .before .before .before .before .args .w2 / 2)) (values2 (c .before))
-
-fits3 : (c : tie.Start) → Under unitsInOne 0 (foldStep unitsInOne (c .args .w2 / 2) (foldStep unitsInOne (c .args .w1 / 2) (foldStep unitsInOne (c .args .w0 / 2) (start c))))
-fits3 c = under-fold unitsInOne (c .args .w2 / 2) (foldStep unitsInOne (c .args .w1 / 2) (foldStep unitsInOne (c .args .w0 / 2) (start c))) (omega arith) (c .pre .1 .2) (fits2 c)
-
--- the values after pin 3, and that none passes U
-values4 : (c : tie.After-fold-step4) → take 1 (c .fold-step4 .result) ≡ foldStep unitsInOne ((c .before .before .before .before .before .before .before .before .before) .args .w3 / 2) (foldStep unitsInOne ((c .before .before .before .before .before .before .before .before .before) .args .w2 / 2) (foldStep unitsInOne ((c .before .before .before .before .before .before .before .before .before) .args .w1 / 2) (foldStep unitsInOne ((c .before .before .before .before .before .before .before .before .before) .args .w0 / 2) (start (c .before .before .before .before .before .before .before .before .before)))))
-values4 c = c .fold-step4 .ensures ∙ ap (foldStep unitsInOne (c .before .before .before .before .before .before .before .before .before .args .w3 / 2)) (values3 (c .before))
-
-fits4 : (c : tie.Start) → Under unitsInOne 0 (foldStep unitsInOne (c .args .w3 / 2) (foldStep unitsInOne (c .args .w2 / 2) (foldStep unitsInOne (c .args .w1 / 2) (foldStep unitsInOne (c .args .w0 / 2) (start c)))))
-fits4 c = under-fold unitsInOne (c .args .w3 / 2) (foldStep unitsInOne (c .args .w2 / 2) (foldStep unitsInOne (c .args .w1 / 2) (foldStep unitsInOne (c .args .w0 / 2) (start c)))) (omega arith) (c .pre .1 .3) (fits3 c)
-
--- the last value
-last-is : (c : tie.After-fold-step4) → getD (c .fold-step4 .result) 0 0 ≡ lastValue unitsInOne (c .before .before .before .before .before .before .before .before .before .args .table) (rightBit (c .before .before .before .before .before .before .before .before .before .args .table) (c .before .before .before .before .before .before .before .before .before .args .start) (pins0 (c .before .before .before .before .before .before .before .before .before))) (c .before .before .before .before .before .before .before .before .before .args .start) (pins0 (c .before .before .before .before .before .before .before .before .before))
-unfolding lastValue start
-last-is c = sym (getD-take 1 (c .fold-step4 .result) 0 0 (omega arith)) ∙ ap (λ (xs : List ℕ). getD xs 0 0) (values4 c)
-
-last-fits : (c : tie.After-fold-step4) → getD (c .fold-step4 .result) 0 0 ≤ unitsInOne
-last-fits c = part₀ unitsInOne (c .fold-step4 .result) _ 1 (values4 c) (fits4 (c .before .before .before .before .before .before .before .before .before)) 0 (omega arith)
+spread : (c : tie.After-spread-pin4) → take 16 (c .spread-pin4 .result) ≡ spreadPins (pins (entry c) 0) (entry c .args .start ∷ [])
+spread c = rw (
+  c .spread-pin4 .ensures,
+  c .before .spread-pin3 .ensures,
+  c .before .before .spread-pin2 .ensures,
+  c .before .before .before .spread-pin .ensures,
+)
 
 spread-pin-requires : tie.Need-spread-pin-requires
-spread-pin-requires c κs = (omega arith, part 15 (c .args .a3) (replicate 16 (c .args .start)) (c .args .start ∷ []) 1 refl (under-pins 15 (c .args .a3) (c .args .start) [] (omega (arith, c .pre .0 .0))))
+spread-pin-requires c κs =
+    let s = c .before .before in
+    (omega arith, spread-room (s .args .start) (pins s 4) 1 (replicate 16 (s .args .start)) refl _ (omega arith))
 
 spread-pin-requires-2 : tie.Need-spread-pin-requires-2
-spread-pin-requires-2 c κs = (omega arith, part 15 (c .before .args .a2) (c .spread-pin .result) _ 2 (indices1 c) (under-pins 15 (c .before .args .a2) (c .before .args .start) (pins3 (c .before)) (omega (arith, c .before .pre .0 .0))))
+spread-pin-requires-2 c κs =
+    let s = c .before .before .before in
+    (omega arith, spread-room (s .args .start) (pins s 3) 2 (c .spread-pin .result) (c .spread-pin .ensures) _ (omega arith))
 
 spread-pin-requires-3 : tie.Need-spread-pin-requires-3
-spread-pin-requires-3 c κs = (omega arith, part 15 (c .before .before .args .a1) (c .spread-pin2 .result) _ 4 (indices2 c) (under-pins 15 (c .before .before .args .a1) (c .before .before .args .start) (pins2 (c .before .before)) (omega (arith, c .before .before .pre .0 .0))))
+spread-pin-requires-3 c κs =
+    let s = c .before .before .before .before in (
+      omega arith,
+      spread-room (s .args .start) (pins s 2) 4 (c .spread-pin2 .result)
+          (rw (c .spread-pin2 .ensures, c .before .spread-pin .ensures))
+          _
+          (omega arith),
+    )
 
 spread-pin-requires-4 : tie.Need-spread-pin-requires-4
-spread-pin-requires-4 c κs = (omega arith, part 15 (c .before .before .before .args .a0) (c .spread-pin3 .result) _ 8 (indices3 c) (under-pins 15 (c .before .before .before .args .a0) (c .before .before .before .args .start) (pins1 (c .before .before .before)) (omega (arith, c .before .before .before .pre .0 .0))))
-
--- every index is below 16
-small : (c : tie.After-spread-pin4) (i : ℕ) → i < 16 → getD (c .spread-pin4 .result) i 0 ≤ 15
-small c = part₀ 15 (c .spread-pin4 .result) _ 16 (indices4 c) (under-pins 15 0 (c .before .before .before .before .args .start) (pins0 (c .before .before .before .before)) (omega (arith, c .before .before .before .before .pre .0 .0)))
-
-array-read-right : tie.Need-array-read-right
-array-read-right c = search needs
-
-shr-right : tie.Need-shr-right
-shr-right c = omega (arith, small c 0 (omega arith))
+spread-pin-requires-4 c κs =
+    let s = c .before .before .before .before .before in (
+      omega arith,
+      spread-room (s .args .start) (pins s 1) 8 (c .spread-pin3 .result)
+          (rw (c .spread-pin3 .ensures, c .before .spread-pin2 .ensures, c .before .before .spread-pin .ensures))
+          _
+          (omega arith),
+    )
 
 start-values-requires : tie.Need-start-values-requires
-start-values-requires c κs = (omega arith, small c)
-
-cast-fold-step : tie.Need-cast-fold-step
-cast-fold-step c = search needs
+start-values-requires c κs =
+    let s = entry c in
+    (omega arith, spread-small (s .args .start) (pins s 0) 16 (c .spread-pin4 .result) (spread c) (omega arith))
 
 fold-step-requires : tie.Need-fold-step-requires
-fold-step-requires c κs = (omega arith, (c .before .before .before .before .before .pre .1 .0, part₀ unitsInOne (c .start-values .result) _ 16 (values0 c) (fits0 (c .before .before .before .before .before))))
-
-cast-fold-step-2 : tie.Need-cast-fold-step-2
-cast-fold-step-2 c = search needs
+fold-step-requires c κs = search (needs, entry (c .before) .pre .1)
 
 fold-step-requires-2 : tie.Need-fold-step-requires-2
-fold-step-requires-2 c κs = (omega arith, (c .before .before .before .before .before .before .pre .1 .1, part₀ unitsInOne (c .fold-step .result) _ 8 (values1 c) (fits1 (c .before .before .before .before .before .before))))
-
-cast-fold-step-3 : tie.Need-cast-fold-step-3
-cast-fold-step-3 c = search needs
+fold-step-requires-2 c κs = search (needs, entry (c .before .before) .pre .1)
 
 fold-step-requires-3 : tie.Need-fold-step-requires-3
-fold-step-requires-3 c κs = (omega arith, (c .before .before .before .before .before .before .before .pre .1 .2, part₀ unitsInOne (c .fold-step2 .result) _ 4 (values2 c) (fits2 (c .before .before .before .before .before .before .before))))
-
-cast-fold-step-4 : tie.Need-cast-fold-step-4
-cast-fold-step-4 c = search needs
+fold-step-requires-3 c κs = search (needs, entry (c .before .before .before) .pre .1)
 
 fold-step-requires-4 : tie.Need-fold-step-requires-4
-fold-step-requires-4 c κs = (omega arith, (c .before .before .before .before .before .before .before .before .pre .1 .3, part₀ unitsInOne (c .fold-step3 .result) _ 2 (values3 c) (fits3 (c .before .before .before .before .before .before .before .before))))
-
-array-read-word-of : tie.Need-array-read-word-of
-array-read-word-of c = search needs
+fold-step-requires-4 c κs = search (needs, entry (c .before .before .before .before) .pre .1)
 
 word-of-requires : tie.Need-word-of-requires
-word-of-requires c κs = (last-fits c, c .before .before .before .before .before .before .before .before .before .pre .0 .1, omega arith)
+word-of-requires c κs =
+    let d = c .before .before .before .before .before in
+    let s = entry d in (
+      spread-small (s .args .start) (pins s 0) 16 (d .spread-pin4 .result) (spread d) (omega arith) 0 (omega arith),
+      c .fold-step4 .ensures .1 0 (omega arith),
+      s .pre .0 .1,
+    )
 
 returns : tie.Need-returns
-unfolding pinsWord
-returns c = c .word-of .ensures ∙ ap₂ (λ (m r : ℕ). 2 * gateStep unitsInOne m (c .before .before .before .before .before .before .before .before .before .before .args .flip) + r) (last-is (c .before)) (right-is (c .before .before .before .before .before .before))
+returns c =
+    let d = c .before .before .before .before .before .before in
+    let s = entry d in
+    c .word-of .ensures
+    ∙ word-made (s .args .start) (pins s 0) 16 (d .spread-pin4 .result) (spread d) (s .args .table) _ (c .before .fold-step4 .result) (omega arith)
+    (rw (
+      c .before .fold-step4 .ensures .0,
+      c .before .before .fold-step3 .ensures .0,
+      c .before .before .before .fold-step2 .ensures .0,
+      c .before .before .before .before .fold-step .ensures .0,
+      c .before .before .before .before .before .start-values .ensures .0,
+    ))
 
 pub word-four-spec : {M : Type 1} → statement M
 word-four-spec =
@@ -168,17 +104,10 @@ word-four-spec =
     spread-pin-requires-2
     spread-pin-requires-3
     spread-pin-requires-4
-    array-read-right
-    shr-right
     start-values-requires
-    cast-fold-step
     fold-step-requires
-    cast-fold-step-2
     fold-step-requires-2
-    cast-fold-step-3
     fold-step-requires-3
-    cast-fold-step-4
     fold-step-requires-4
-    array-read-word-of
     word-of-requires
     returns)

@@ -2,7 +2,6 @@
 use Prim.Native.Nat.{ℕ, _+_, _*_, _/_, _%_, _^_}
 use mathlib.Core.Bool.{Bool, cond}
 use mathlib.Core.Path.{_≡_, refl, sym, ap, _∙_}
-use native.Mathlib.Omega.{arith}
 use borrow.Author.Needs.{needs}
 use borrow.Author.Tests.{eq-eqb}
 use Rattle.rounding.specs.Rounding.{unitsInOne}
@@ -11,19 +10,16 @@ use Rattle.figure.specs.Steps.{lastValue, pinsWord}
 use Rattle.figure.proofs.word_none.Statement.{statement}
 use Rattle.figure.proofs.word_none.Tie as tie
 
-shr-word-of : tie.Need-shr-word-of
-shr-word-of c = search needs
-
 word-of-requires : tie.Need-word-of-requires
 word-of-requires c κs = search needs
 
 returns : tie.Need-returns
 unfolding pinsWord lastValue
 returns c =
-    let s = c .before in
-    let right = s .args .table / 2 ^ s .args .start % 2 in
+    let s = c .before .args in
+    let right = s .table / 2 ^ s .start % 2 in
     c .word-of .ensures
-    ∙ ap (λ (b : Bool). 2 * gateStep unitsInOne (cond b 0 unitsInOne) (s .args .flip) + right) (sym (eq-eqb right right refl))
+    ∙ ap (λ (b : Bool). 2 * gateStep unitsInOne (cond b 0 unitsInOne) (s .flip) + right) (sym (eq-eqb right right refl))
 
 pub word-none-spec : {M : Type 1} → statement M
-word-none-spec = tie.close (tie.spec shr-word-of word-of-requires returns)
+word-none-spec = tie.close (tie.spec word-of-requires returns)

@@ -12,12 +12,12 @@ use Rattle.lanes.proofs.add_input.Statement.{statement}
 use Rattle.lanes.proofs.add_input.Tie as tie
 
 abbrev Inv-loop : tie.InvT-loop
-Inv-loop starts₀ lanes source weight l₀ starts l =
-    (l ≤ 8) × (length starts ≡ 8) × ((k : ℕ) → k < l → getD starts k 0 ≡ getD starts₀ k 0 + laneWord lanes k source % 2 * weight)
+Inv-loop starts₀ lanes source bit l₀ starts l =
+    (l ≤ 8) × (length starts ≡ 8) × ((k : ℕ) → k < l → getD starts k 0 ≡ getD starts₀ k 0 + laneWord lanes k source % 2 * bit)
     × ((k : ℕ) → l ≤ k → getD starts k 0 ≡ getD starts₀ k 0)
 
 abbrev μ-loop : tie.MeasureT-loop
-μ-loop starts₀ lanes source weight l₀ starts l = 8 - l
+μ-loop starts₀ lanes source bit l₀ starts l = 8 - l
 
 loop-holds : tie.Need-loop-holds Inv-loop μ-loop
 loop-holds c = (omega arith, c .pre .0 .2, (λ k less. absurd (omega arith)), λ k past. refl)
@@ -37,7 +37,7 @@ element-copy-out-starts c = search needs
 mul-starts-3 : tie.Need-mul-starts-3 Inv-loop μ-loop
 mul-starts-3 c =
     let s = c .before .before .before in
-    omega (arith, added (laneWord (s .args .lanes .now) (c .before .before .loop .l) (s .args .source)) (s .args .weight), s .pre .0 .1)
+    omega (arith, added (laneWord (s .args .lanes .now) (c .before .before .loop .l) (s .args .source)) (s .args .bit), s .pre .0 .1)
 
 mul-starts-4 : tie.Need-mul-starts-4 Inv-loop μ-loop
 mul-starts-4 c = search needs
@@ -51,7 +51,7 @@ add-starts-2 c =
     let s = c .before .before .before .before in
     omega (
       arith,
-      added (laneWord (s .args .lanes .now) (l .l) (s .args .source)) (s .args .weight),
+      added (laneWord (s .args .lanes .now) (l .l) (s .args .source)) (s .args .bit),
       l .inv .3 (l .l) (omega arith),
       s .pre .1 (l .l) (omega arith),
       s .pre .0 .1,
@@ -71,7 +71,7 @@ loop-again c =
     let l = c .before .before .before .loop in
     let s = c .before .before .before .before in
     let old = s .args .starts .now in
-    let adds : ℕ → ℕ = λ (k : ℕ). laneWord (s .args .lanes .now) k (s .args .source) % 2 * s .args .weight in
+    let adds : ℕ → ℕ = λ (k : ℕ). laneWord (s .args .lanes .now) k (s .args .source) % 2 * s .args .bit in
     let start = getD (l .starts) (l .l) 0 + adds (l .l) in (
       omega arith,
       length-set (l .starts) (l .l) start ∙ l .inv .1,

@@ -13,8 +13,7 @@ use Rattle.lanes.proofs.lanes_none.Statement.{statement}
 use Rattle.lanes.proofs.lanes_none.Tie as tie
 
 abbrev Inv-loop : tie.InvT-loop
-Inv-loop table flip starts words₀ l₀ words l =
-    Filled (λ (m : ℕ). pinsWord unitsInOne table (getD starts m 0) [] flip) words l
+Inv-loop table flip starts words₀ l₀ words l = Filled 8 (λ (m : ℕ). pinsWord unitsInOne table (getD starts m 0) [] flip) words l
 
 abbrev μ-loop : tie.MeasureT-loop
 μ-loop table flip starts words₀ l₀ words l = 8 - l
@@ -30,9 +29,8 @@ element-copy-out-word-none c = search needs
 
 word-none-requires : tie.Need-word-none-requires Inv-loop μ-loop
 word-none-requires c κs =
-    let l = c .before .before .loop .l in
     let s = c .before .before .before in
-    (s .pre .1 l (omega arith), s .pre .0)
+    (s .pre .1 (c .before .before .loop .l) (omega arith), s .pre .0)
 
 mul-words : tie.Need-mul-words Inv-loop μ-loop
 mul-words c = search needs
@@ -49,7 +47,7 @@ loop-less c = search needs
 loop-again : tie.Need-loop-again Inv-loop μ-loop
 loop-again c =
     let l = c .before .before .before .loop in
-    fill-turn _ (l .words) (l .l) _ (l .inv) (omega arith) (c .word-none .ensures)
+    fill-turn 8 _ (l .words) (l .l) _ (l .inv) (omega arith) (c .word-none .ensures)
 
 returns : tie.Need-returns Inv-loop μ-loop
 returns c = λ m less. c .before .loop .inv .2 m (omega arith)

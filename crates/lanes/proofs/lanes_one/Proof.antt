@@ -1,27 +1,25 @@
 -- `lanes::lanes_one` meets its contract: each turn fills in the word of one lane. Assumes nothing.
-use Prim.Native.Nat.{ℕ, _-_}
+use Prim.Native.Nat.{_-_}
 use mathlib.Core.Path.{refl}
-use mathlib.Core.List.{[], _∷_}
 use native.Mathlib.Omega.{arith}
 use borrow.Author.Count.{below-none}
 use borrow.Author.Needs.{needs}
-use lib.ListN.{getD}
-use Rattle.rounding.specs.Rounding.{unitsInOne}
-use Rattle.figure.specs.Steps.{pinsWord}
-use Rattle.lanes.specs.Lanes.{laneWord}
-use Rattle.lanes.proofs.Fill.{Filled, fill-turn}
+use Rattle.lanes.specs.Lanes.{keptWord}
+use Rattle.lanes.proofs.Fill.{Filled, kept-failures, kept-turn}
 use Rattle.lanes.proofs.lanes_one.Statement.{statement}
 use Rattle.lanes.proofs.lanes_one.Tie as tie
 
 abbrev Inv-loop : tie.InvT-loop
-Inv-loop lanes table flip starts s0 a0 words₀ l₀ words l =
-    Filled (λ (m : ℕ). pinsWord unitsInOne table (getD starts m 0) (record { word = laneWord lanes m s0; weight = a0 } ∷ []) flip) words l
+Inv-loop lanes table flip sources bits starts words₀ l₀ words l = Filled 8 (keptWord lanes starts 1 sources bits table flip) words l
 
 abbrev μ-loop : tie.MeasureT-loop
-μ-loop lanes table flip starts s0 a0 words₀ l₀ words l = 8 - l
+μ-loop lanes table flip sources bits starts words₀ l₀ words l = 8 - l
 
 loop-holds : tie.Need-loop-holds Inv-loop μ-loop
 loop-holds c = (omega arith, refl, below-none _)
+
+kept-words-requires : tie.Need-kept-words-requires Inv-loop μ-loop
+kept-words-requires c κs = ((omega arith, c .loop-test .taken), c .before .before .pre .1 .readable)
 
 mul-word-one : tie.Need-mul-word-one Inv-loop μ-loop
 mul-word-one c = search needs
@@ -29,23 +27,15 @@ mul-word-one c = search needs
 element-copy-out-word-one : tie.Need-element-copy-out-word-one Inv-loop μ-loop
 element-copy-out-word-one c = search needs
 
-mul-word-one-2 : tie.Need-mul-word-one-2 Inv-loop μ-loop
-mul-word-one-2 c = omega (arith, c .before .before .before .pre .1 .0 .inside)
-
-add-word-one : tie.Need-add-word-one Inv-loop μ-loop
-add-word-one c = omega (arith, c .before .before .before .pre .1 .0 .inside)
-
-mul-word-one-3 : tie.Need-mul-word-one-3 Inv-loop μ-loop
-mul-word-one-3 c = omega (arith, c .before .before .before .pre .1 .0 .inside)
-
-element-copy-out-word-one-2 : tie.Need-element-copy-out-word-one-2 Inv-loop μ-loop
-element-copy-out-word-one-2 c = omega (arith, c .before .before .before .pre .1 .0 .inside)
-
 word-one-requires : tie.Need-word-one-requires Inv-loop μ-loop
 word-one-requires c κs =
-    let l = c .before .before .before .loop .l in
     let s = c .before .before .before .before in
-    ((s .pre .1 .1 l (omega arith), s .pre .0), s .pre .1 .0 .failure l (omega arith))
+    let l = c .before .before .before .loop .l in
+    let less = c .before .before .loop-test .taken in
+    let read = c .before .kept-words in (
+      (s .pre .1 .fits l less, s .pre .0),
+      kept-failures (s .args .lanes .now) (s .args .starts .now) 1 (s .args .sources) (s .args .bits) (read .result) l less (read .ensures) (s .pre .1),
+    )
 
 mul-words : tie.Need-mul-words Inv-loop μ-loop
 mul-words c = search needs
@@ -61,8 +51,11 @@ loop-less c = search needs
 
 loop-again : tie.Need-loop-again Inv-loop μ-loop
 loop-again c =
+    let a = c .before .before .before .before .before .args in
     let l = c .before .before .before .before .loop in
-    fill-turn _ (l .words) (l .l) _ (l .inv) (omega arith) (c .word-one .ensures)
+    let read = c .before .before .kept-words in
+    kept-turn (a .lanes .now) (a .starts .now) 1 (a .sources) (a .bits) (read .result) (l .l) (omega arith) (read .ensures)
+    (a .table) (a .flip) (l .words) (c .word-one .result) (l .inv) (c .word-one .ensures)
 
 returns : tie.Need-returns Inv-loop μ-loop
 returns c = λ m less. c .before .loop .inv .2 m (omega arith)
@@ -74,12 +67,9 @@ lanes-one-spec =
     Inv-loop
     μ-loop
     loop-holds
+    kept-words-requires
     mul-word-one
     element-copy-out-word-one
-    mul-word-one-2
-    add-word-one
-    mul-word-one-3
-    element-copy-out-word-one-2
     word-one-requires
     mul-words
     array-write-words

@@ -11,21 +11,21 @@ use Rattle.lanes.proofs.split_lanes.Statement.{statement}
 use Rattle.lanes.proofs.split_lanes.Tie as tie
 
 abbrev Inv-loop : tie.InvT-loop
-Inv-loop area lanes inputs base count kept₀ sources₀ weights₀ starts₀ weight₀ i₀ kept sources weights starts weight i =
-    (i ≤ count) × (kept ≤ i) × (length sources ≡ 4) × (length weights ≡ 4) × (length starts ≡ 8)
+Inv-loop area lanes inputs base count kept₀ sources₀ bits₀ starts₀ bit₀ i₀ kept sources bits starts bit i =
+    (i ≤ count) × (kept ≤ i) × (length sources ≡ 4) × (length bits ≡ 4) × (length starts ≡ 8)
     × ((k : ℕ) → k < kept → Readable lanes (getD sources k 0))
-    × ((l : ℕ) → l < 8 → Going area lanes base count l kept sources weights (getD starts l 0) weight i)
+    × ((l : ℕ) → l < 8 → Going area lanes base count l kept sources bits (getD starts l 0) bit i)
 
 abbrev μ-loop : tie.MeasureT-loop
-μ-loop area lanes inputs base count kept₀ sources₀ weights₀ starts₀ weight₀ i₀ kept sources weights starts weight i = count - i
+μ-loop area lanes inputs base count kept₀ sources₀ bits₀ starts₀ bit₀ i₀ kept sources bits starts bit i = count - i
 
--- the weight of a turn's pin is small
-weight-room : (c : tie.In-loop Inv-loop μ-loop) → c .before .loop .weight ≤ 15
-weight-room c =
+-- the bit of a turn's pin is small
+bit-room : (c : tie.In-loop Inv-loop μ-loop) → c .before .loop .bit ≤ 15
+bit-room c =
     let s = c .before .before .before in
     let l = c .before .loop in
-    going-room (s .args .area .now) (s .args .lanes .now) (s .args .base) (s .args .count) 0 (s .pre .0 .0) (s .pre .0 .1) (l .kept) (l .sources) (l .weights)
-    (getD (l .starts) 0 0) (l .weight) (l .i) (c .loop-test .taken) (l .inv .6 0 (omega arith))
+    going-room (s .args .area .now) (s .args .lanes .now) (s .args .base) (s .args .count) 0 (s .pre .0 .0) (s .pre .0 .1)
+    (l .kept) (l .sources) (l .bits) (getD (l .starts) 0 0) (l .bit) (l .i) (c .loop-test .taken) (l .inv .6 0 (omega arith))
 
 loop-holds : tie.Need-loop-holds Inv-loop μ-loop
 loop-holds c =
@@ -39,7 +39,8 @@ loop-holds c =
       refl,
       (λ k less. absurd (omega arith)),
       λ l less.
-          subst (λ (start : ℕ). Going area lanes (s .args .base) (s .args .count) l 0 (replicate 4 0) (replicate 4 0) start 1 0) (sym (getD-replicate 8 l 0 0 less))
+          subst (λ (start : ℕ). Going area lanes (s .args .base) (s .args .count) l 0 (replicate 4 0) (replicate 4 0) start 1 0)
+          (sym (getD-replicate 8 l 0 0 less))
           (going-first area lanes (s .args .base) (s .args .count) l (s .pre .0 .0) (s .pre .0 .1) (replicate 4 0) (replicate 4 0)),
     )
 
@@ -64,10 +65,10 @@ add-input-requires : tie.Need-add-input-requires Inv-loop μ-loop
 add-input-requires c κs =
     let s = c .before .before .before .before .before .before in
     let l = c .before .before .before .before .loop in (
-      (s .pre .1 .1 (l .i) (omega arith) .inside, weight-room (c .before .before .before), l .inv .4),
+      (s .pre .1 .1 (l .i) (omega arith) .inside, bit-room (c .before .before .before), l .inv .4),
       λ k less.
-          going-start (s .args .area .now) (s .args .lanes .now) (s .args .base) (s .args .count) k (s .pre .0 .0) (s .pre .0 .1) (l .kept) (l .sources) (l .weights)
-          (getD (l .starts) k 0) (l .weight) (l .i) (omega arith) (l .inv .6 k less),
+          going-start (s .args .area .now) (s .args .lanes .now) (s .args .base) (s .args .count) k (s .pre .0 .0) (s .pre .0 .1)
+          (l .kept) (l .sources) (l .bits) (getD (l .starts) k 0) (l .bit) (l .i) (omega arith) (l .inv .6 k less),
     )
 
 mul-sources : tie.Need-mul-sources Inv-loop μ-loop
@@ -76,17 +77,17 @@ mul-sources c = search needs
 array-write-sources : tie.Need-array-write-sources Inv-loop μ-loop
 array-write-sources c = search needs
 
-mul-weights : tie.Need-mul-weights Inv-loop μ-loop
-mul-weights c = search needs
+mul-bits : tie.Need-mul-bits Inv-loop μ-loop
+mul-bits c = search needs
 
-array-write-weights : tie.Need-array-write-weights Inv-loop μ-loop
-array-write-weights c = search needs
+array-write-bits : tie.Need-array-write-bits Inv-loop μ-loop
+array-write-bits c = search needs
 
 add-kept : tie.Need-add-kept Inv-loop μ-loop
 add-kept c = search needs
 
-mul-weight : tie.Need-mul-weight Inv-loop μ-loop
-mul-weight c = omega (arith, weight-room (c .before .before))
+mul-bit : tie.Need-mul-bit Inv-loop μ-loop
+mul-bit c = omega (arith, bit-room (c .before .before))
 
 add-i : tie.Need-add-i Inv-loop μ-loop
 add-i c = search needs
@@ -118,13 +119,14 @@ loop-again c =
       w .2 .ensures .1,
       l .inv .5,
       λ k less.
-          subst (λ (start : ℕ). Going area lanes (s .args .base) (s .args .count) k (l .kept) (l .sources) (l .weights) start (l .weight * 2) (l .i + 1))
+          subst (λ (start : ℕ). Going area lanes (s .args .base) (s .args .count) k (l .kept) (l .sources) (l .bits) start (l .bit * 2) (l .i + 1))
           (sym (w .2 .ensures .0 k less))
-          (going-input area lanes (s .args .base) (s .args .count) k few long (l .kept) (l .sources) (l .weights) (getD (l .starts) k 0) (l .weight) (l .i) inside (l .inv .6 k less) source refl (s .pre .1 .0 source k (w .0 .taken) less)),
+          (going-input area lanes (s .args .base) (s .args .count) k few long (l .kept) (l .sources) (l .bits) (getD (l .starts) k 0)
+          (l .bit) (l .i) inside (l .inv .6 k less) source refl (s .pre .1 .0 source k (w .0 .taken) less)),
     )))))
     (λ w.
     let m : l .kept < length (l .sources) = omega (arith, l .inv .2) in
-    let n : l .kept < length (l .weights) = omega (arith, l .inv .3) in
+    let n : l .kept < length (l .bits) = omega (arith, l .inv .3) in
     rw (w .1)
     (rw (w .2)
     (rw (w .3)
@@ -132,11 +134,12 @@ loop-again c =
       omega arith,
       omega arith,
       length-set (l .sources) (l .kept) source ∙ l .inv .2,
-      length-set (l .weights) (l .kept) (l .weight) ∙ l .inv .3,
+      length-set (l .bits) (l .kept) (l .bit) ∙ l .inv .3,
       l .inv .4,
       readable-more lanes (l .kept) (l .sources) source m (s .pre .1 .1 (l .i) inside) (l .inv .5),
       λ k less.
-          going-kept area lanes (s .args .base) (s .args .count) k few long (l .kept) (l .sources) (l .weights) (getD (l .starts) k 0) (l .weight) (l .i) inside (l .inv .6 k less) source refl m n,
+          going-kept area lanes (s .args .base) (s .args .count) k few long (l .kept) (l .sources) (l .bits) (getD (l .starts) k 0)
+          (l .bit) (l .i) inside (l .inv .6 k less) source refl m n,
     )))))
     (c .if1 .came)
 
@@ -146,8 +149,8 @@ returns c =
     let l = c .before .loop in (
       (omega (arith, s .pre .0 .0), l .inv .5),
       λ k less.
-          going-last (s .args .area .now) (s .args .lanes .now) (s .args .base) (s .args .count) k (s .pre .0 .0) (s .pre .0 .1) (l .kept) (l .sources) (l .weights)
-          (getD (l .starts) k 0) (l .weight) (l .i) (c .loop-test .left) (l .inv .6 k less),
+          going-last (s .args .area .now) (s .args .lanes .now) (s .args .base) (s .args .count) k (s .pre .0 .0) (s .pre .0 .1)
+          (l .kept) (l .sources) (l .bits) (getD (l .starts) k 0) (l .bit) (l .i) (c .loop-test .left) (l .inv .6 k less),
     )
 
 pub split-lanes-spec : {M : Type 1} → statement M
@@ -165,10 +168,10 @@ split-lanes-spec =
     add-input-requires
     mul-sources
     array-write-sources
-    mul-weights
-    array-write-weights
+    mul-bits
+    array-write-bits
     add-kept
-    mul-weight
+    mul-bit
     add-i
     loop-less
     loop-again

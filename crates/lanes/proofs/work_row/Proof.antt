@@ -1,22 +1,23 @@
 -- `lanes::work_row` meets its contract: the pins are split, and their words in all lanes are stored as the row. Assumes nothing.
 use Prim.Native.Nat.{ℕ, _+_, _<_}
 use mathlib.Core.Path.{_≡_, _∙_}
-use mathlib.Core.List.{List, map}
+use mathlib.Core.List.{List}
 use borrow.Author.Needs.{needs}
-use lib.ListN.{getD, take, drop}
-use Rattle.rounding.specs.Rounding.{unitsInOne}
-use Rattle.figure.specs.Steps.{pinsWord, Split}
-use Rattle.lanes.specs.Lanes.{laneWord, RowStored, lanePins, laneGate}
+use lib.ListN.{getD}
+use Rattle.lanes.specs.Lanes.{RowStored, LanesSplit, keptWord, laneGate}
 use Rattle.lanes.proofs.work_row.Statement.{statement}
 use Rattle.lanes.proofs.work_row.Tie as tie
 
 -- a row of words from split pins is a row of gates' words
-gate-row : (area old new starts sources weights : List ℕ) (base source kept : ℕ) {row : ℕ → ℕ} → RowStored old new source row
-    → ((l : ℕ) → l < 8 → row l ≡ pinsWord unitsInOne (getD area (base + 1) 0) (getD starts l 0) (lanePins old l kept sources weights) (getD area (base + 6) 0))
-    → ((l : ℕ) → l < 8 → Split (map (laneWord old l) (take (getD area base 0) (drop (base + 2) area))) (getD starts l 0) (lanePins old l kept sources weights))
+gate-row : (area old new starts sources bits : List ℕ) (base source kept : ℕ) {row : ℕ → ℕ} → RowStored old new source row
+    → ((l : ℕ) → l < 8 → row l ≡ keptWord old starts kept sources bits (getD area (base + 1) 0) (getD area (base + 6) 0) l)
+    → LanesSplit area old base (getD area base 0) starts kept sources bits
     → RowStored old new source (laneGate area old base)
-gate-row area old new starts sources weights base source kept stored made split =
-    record { here = λ l less. stored .here l less ∙ made l less ∙ split l less .word (getD area (base + 1) 0) (getD area (base + 6) 0); other = stored .other }
+gate-row area old new starts sources bits base source kept stored made split =
+    record {
+      here = λ l less. stored .here l less ∙ made l less ∙ split l less .word (getD area (base + 1) 0) (getD area (base + 6) 0);
+      other = stored .other;
+    }
 
 mul-split-lanes : tie.Need-mul-split-lanes
 mul-split-lanes c = search needs
@@ -50,8 +51,9 @@ shared-slice-read-lane-words-2 c = search needs
 
 lane-words-requires : tie.Need-lane-words-requires
 lane-words-requires c κs =
-    let e = c .before .before .before .before .before .before .before .split-lanes .ensures in
-    ((e .0 .0, c .before .before .before .before .before .before .before .before .before .before .before .pre .1 .0 .1), (e .0 .1, λ l less. e .1 l less .fits))
+    let s = c .before .before .before .before .before .before .before .before .before .before .before in
+    let split = c .before .before .before .before .before .before .before .split-lanes .ensures in
+    ((split .0 .0, s .pre .1 .0 .1), record { readable = split .0 .1; fits = λ l less. split .1 l less .fits })
 
 store-row-requires : tie.Need-store-row-requires
 store-row-requires c κs = search needs
@@ -62,8 +64,8 @@ returns c =
     let a = c .before .before .before .before .before .before .before .before .before .before .before .before .before .before .args in
     let split = c .before .before .before .before .before .before .before .before .before .before .split-lanes in
     let pins = split .result in (
-      gate-row (a .area .now) (a .lanes .now) _ (pins .starts) (pins .sources) (pins .weights) (a .base) (a .source) (pins .kept) (stored .0)
-          (c .before .before .lane-words .ensures) (split .ensures .1),
+      gate-row (a .area .now) (a .lanes .now) _ (pins .starts) (pins .sources) (pins .bits) (a .base) (a .source) (pins .kept)
+          (stored .0) (c .before .before .lane-words .ensures) (split .ensures .1),
       stored .1,
     )
 

@@ -7,7 +7,7 @@ use lib.ListN.{length, getD, take, drop, length-set, length-take, length-drop}
 use lib.Seq.{getD-drop}
 use Rattle.lists.specs.Lists.{count}
 use Rattle.area.specs.Layout.{mostSources}
-use Rattle.live.proofs.Count.{read-turn, count-length}
+use Rattle.lists.proofs.Counts.{count-length, count-turn}
 use borrow.Author.Needs.{needs}
 use Rattle.live.proofs.add_reads.Statement.{statement}
 use Rattle.live.proofs.add_reads.Tie as tie
@@ -76,7 +76,7 @@ loop-again c =
     let below : source < mostSources = omega (arith, pre .1 .0 (l .i) (omega arith)) in (
       omega arith,
       simp length-set (l .inv .1),
-      read-turn
+      count-turn
           (a .readers .now)
           (l .readers)
           reads

@@ -1,65 +1,68 @@
--- `words::reads_marked` meets its contract: the pins passed read no marked source. Assumes nothing.
-use Prim.Native.Nat.{ℕ, _+_, _-_, _≤_, _<_}
+-- `work::reads_marked` meets its contract: the pins passed read no marked source. Assumes nothing.
+use Prim.Native.Nat.{ℕ, _-_, _≤_, _<_}
 use mathlib.Core.Path.{_≡_, refl, sym, ap, _∙_}
-use mathlib.Core.List.{List}
-use Rattle.work.proofs.Loops.{part-at, marked-here, not-marked-here}
 use native.Mathlib.Omega.{arith}
-use lib.ListN.{length, getD, take, drop, length-take, length-drop, drop-of-length-le}
+use lib.ListN.{length, getD, drop, drop-of-length-le}
+use Rattle.area.specs.Layout.{pinCount, usedPins}
+use Rattle.area.proofs.Words.{gate-inside, used-count, used-pin, pin-below, few-sources}
 use Rattle.work.specs.Work.{readsMarked}
+use Rattle.work.proofs.Loops.{marked-here, not-marked-here}
 use borrow.Author.Needs.{needs}
 use Rattle.work.proofs.reads_marked.Statement.{statement}
 use Rattle.work.proofs.reads_marked.Tie as tie
 
 abbrev Inv-loop : tie.InvT-loop
-Inv-loop area marks base count i₀ i =
-    (i ≤ count) × (readsMarked marks (drop i (take count (drop (base + 2) area))) ≡ readsMarked marks (take count (drop (base + 2) area)))
+Inv-loop area marks gate count i₀ i =
+    (i ≤ count) × (readsMarked marks (drop i (usedPins area gate)) ≡ readsMarked marks (usedPins area gate))
 
 abbrev μ-loop : tie.MeasureT-loop
-μ-loop area marks base count i₀ i = count - i
+μ-loop area marks gate count i₀ i = count - i
 
--- the pins that are read, and the one that a turn reads
-pins : (c : tie.Start Inv-loop μ-loop) → List ℕ
-pins c = take (c .args .count) (drop (c .args .base + 2) (c .args .area .now))
-
-many : (c : tie.Start Inv-loop μ-loop) → length (pins c) ≡ c .args .count
-unfolding pins
-many c =
-    omega (arith, length-take (c .args .count) (drop (c .args .base + 2) (c .args .area .now)), length-drop (c .args .base + 2) (c .args .area .now), c .pre .0)
-
-here : (c : tie.After-index Inv-loop μ-loop) → c .index .result ≡ getD (pins (c .before .before .before .before .before)) (c .before .before .before .loop .i) 0
-unfolding pins
-here c =
-    let a = c .before .before .before .before .before .args in
-    c .index .ensures ∙ sym (part-at (a .area .now) (a .base + 2) (a .count) (c .before .before .before .loop .i) (omega arith))
+pin-count-requires : tie.Need-pin-count-requires Inv-loop μ-loop
+pin-count-requires c κs = gate-inside _ (c .before .pre .0 .net) _ (c .before .pre .1)
 
 loop-holds : tie.Need-loop-holds Inv-loop μ-loop
 loop-holds c = (omega arith, refl)
 
-add-index : tie.Need-add-index Inv-loop μ-loop
-add-index c = search needs
+-- a turn's pin: it is used, and it reads a source
+module _ (c : tie.In-loop Inv-loop μ-loop) where
+  abbrev s : tie.Start Inv-loop μ-loop
+  s = c .before .before .before .before
 
-add-index-2 : tie.Need-add-index-2 Inv-loop μ-loop
-add-index-2 c = search needs
+  abbrev i : ℕ
+  i = c .before .loop .i
 
-mul-index : tie.Need-mul-index Inv-loop μ-loop
-mul-index c = search needs
+  used : i < pinCount (s .args .area .now) (s .args .gate)
+  used = omega (arith, c .before .before .pin-count .ensures)
 
-shared-slice-read-index : tie.Need-shared-slice-read-index Inv-loop μ-loop
-shared-slice-read-index c = search needs
+  inside : i < length (usedPins (s .args .area .now) (s .args .gate))
+  inside = omega (arith, used, used-count (s .args .area .now) (s .pre .0 .net) (s .args .gate) (s .pre .1))
 
-index-requires : tie.Need-index-requires Inv-loop μ-loop
-index-requires c κs = search needs
+pin-requires : tie.Need-pin-requires Inv-loop μ-loop
+pin-requires c κs = (
+  omega (arith, used c, s c .pre .0 .net .gate (s c .args .gate) (s c .pre .1) .pin-count),
+  gate-inside _ (s c .pre .0 .net) _ (s c .pre .1),
+)
+
+-- the pin that a turn reads
+here : (c : tie.After-pin Inv-loop μ-loop) → c .pin .result ≡ getD (usedPins (s (c .before) .args .area .now) (s (c .before) .args .gate)) (i (c .before)) 0
+here c = c .pin .ensures ∙ used-pin _ (s (c .before) .pre .0 .net) _ (s (c .before) .pre .1) _ (used (c .before))
 
 element-copy-out-if1 : tie.Need-element-copy-out-if1 Inv-loop μ-loop
 element-copy-out-if1 c =
-    rw (c .index .ensures) (c .before .before .before .before .before .pre .1 (c .before .before .before .loop .i) (omega arith))
+    let t = s (c .before) in
+    omega (
+      arith,
+      c .pin .ensures,
+      pin-below (t .args .area .now) (t .pre .0 .net) (t .args .gate) (t .pre .1) (i (c .before)) (used (c .before)),
+      few-sources (t .args .area .now) (t .pre .0 .net),
+      t .pre .1,
+    )
 
 returns : tie.Need-returns Inv-loop μ-loop
-unfolding pins
 returns c =
-    let s = c .before .before .before .before .before .before .before in
-    let l = c .before .before .before .before .before .loop in
-    sym (marked-here (s .args .marks .now) (pins s) (l .i) (omega (arith, many s)) (rw (here (c .before .before)) at (c .if1 .taken))) ∙ l .inv .1
+    let t = c .before .before .before in
+    sym (marked-here (s t .args .marks .now) _ (i t) (inside t) (rw (here (c .before .before)) at (c .if1 .taken))) ∙ t .before .loop .inv .1
 
 add-i : tie.Need-add-i Inv-loop μ-loop
 add-i c = search needs
@@ -68,35 +71,20 @@ loop-less : tie.Need-loop-less Inv-loop μ-loop
 loop-less c = search needs
 
 loop-again : tie.Need-loop-again Inv-loop μ-loop
-unfolding pins
 loop-again c =
-    let s = c .before .before .before .before .before .before .before in
-    let l = c .before .before .before .before .before .loop in
-    (omega arith, not-marked-here (s .args .marks .now) (pins s) (l .i) (omega (arith, many s)) (rw (here (c .before .before)) at (c .if1 .left)) ∙ l .inv .1)
+    let t = c .before .before .before in
+    (omega arith, not-marked-here (s t .args .marks .now) _ (i t) (inside t) (rw (here (c .before .before)) at (c .if1 .left)) ∙ t .before .loop .inv .1)
 
 returns-2 : tie.Need-returns-2 Inv-loop μ-loop
-unfolding pins
 returns-2 c =
-    let s = c .before .before .before in
+    let t = c .before .before .before .before in
     let l = c .before .loop in
-    let past : length (pins s) ≤ l .i = omega (arith, many s) in
-    sym (ap (readsMarked (s .args .marks .now)) (drop-of-length-le (pins s) past)) ∙ l .inv .1
+    let ps = usedPins (t .args .area .now) (t .args .gate) in
+    let past : length ps ≤ l .i
+    = omega (arith, used-count (t .args .area .now) (t .pre .0 .net) (t .args .gate) (t .pre .1), c .before .before .pin-count .ensures) in
+    sym (ap (readsMarked (t .args .marks .now)) (drop-of-length-le ps past)) ∙ l .inv .1
 
 pub reads-marked-spec : {M : Type 1} → statement M
 reads-marked-spec =
     tie.close
-    (tie.spec
-    Inv-loop
-    μ-loop
-    loop-holds
-    add-index
-    add-index-2
-    mul-index
-    shared-slice-read-index
-    index-requires
-    element-copy-out-if1
-    returns
-    add-i
-    loop-less
-    loop-again
-    returns-2)
+    (tie.spec Inv-loop μ-loop pin-count-requires loop-holds pin-requires element-copy-out-if1 returns add-i loop-less loop-again returns-2)

@@ -1,90 +1,92 @@
--- `words::reliability_now` meets its contract. Assumes nothing.
-use Prim.Native.Nat.{ℕ, _+_, _-_, _*_, _/_, _≤_, _<_}
+-- `work::reliability_now` meets its contract. Assumes nothing.
+use Prim.Native.Nat.{ℕ, _+_, _-_, _/_, _≤_, _<_}
 use mathlib.Core.Path.{_≡_, refl, sym, ap, _∙_}
+use mathlib.Core.List.{List}
 use native.Mathlib.Omega.{arith}
 use lib.ListN.{length, getD, drop, drop-of-length-le}
 use Rattle.rounding.specs.Rounding.{unitsInOne}
-use Rattle.area.specs.Layout.{inputs, gates, gateIndex, outputWords, sourceWord}
 use Rattle.figure.specs.Figure.{outputStep}
 use Rattle.figure.proofs.Laws.{output-at-most}
-use Rattle.work.proofs.Sound.{source-word-fits, output-below}
-use Rattle.work.proofs.Loops.{output-at, output-count, product-turn}
+use Rattle.area.specs.Layout.{inputs, gates, outputs, outputsIndex, outputWords, sourceWord}
 use Rattle.area.specs.Figures.{productFrom}
+use Rattle.area.proofs.Words.{output-at, output-count, output-below}
 use Rattle.work.specs.Work.{reliabilityNow}
+use Rattle.work.proofs.Sound.{source-word-fits}
+use Rattle.work.proofs.Loops.{product-turn}
 use borrow.Author.Needs.{needs}
 use Rattle.work.proofs.reliability_now.Statement.{statement}
 use Rattle.work.proofs.reliability_now.Tie as tie
 
 abbrev Inv-loop : tie.InvT-loop
 Inv-loop area start count reliability₀ k₀ reliability k =
-    (k ≤ count) × (reliability ≤ unitsInOne) × (productFrom (sourceWord area) reliability (drop k (outputWords area)) ≡ productFrom (sourceWord area) unitsInOne (outputWords area))
+    (k ≤ count) × (reliability ≤ unitsInOne)
+    × (productFrom (sourceWord area) reliability (drop k (outputWords area)) ≡ productFrom (sourceWord area) unitsInOne (outputWords area))
 
 abbrev μ-loop : tie.MeasureT-loop
 μ-loop area start count reliability₀ k₀ reliability k = count - k
 
-shared-slice-read-index : tie.Need-shared-slice-read-index Inv-loop μ-loop
-shared-slice-read-index c = search needs
+gates-requires : tie.Need-gates-requires Inv-loop μ-loop
+gates-requires c κs = search needs
 
-index-requires : tie.Need-index-requires Inv-loop μ-loop
-index-requires c κs = search needs
+outputs-index-requires : tie.Need-outputs-index-requires Inv-loop μ-loop
+outputs-index-requires c κs = search needs
 
-mul-start : tie.Need-mul-start Inv-loop μ-loop
-mul-start c = search needs
-
-add-start : tie.Need-add-start Inv-loop μ-loop
-add-start c = search needs
-
-shared-slice-read-index-2 : tie.Need-shared-slice-read-index-2 Inv-loop μ-loop
-shared-slice-read-index-2 c = search needs
-
-index-requires-2 : tie.Need-index-requires-2 Inv-loop μ-loop
-index-requires-2 c κs = search needs
-
--- the output that a turn reads, and how many there are
-here : (c : tie.After-index3 Inv-loop μ-loop)
-    → c .index3 .result ≡ getD (outputWords (c .before .before .before .before .before .before .before .before .before .args .area .now)) (c .before .before .before .loop .k) 0
-here c =
-    let ws = c .before .before .before .before .before .before .before .before .before .args .area .now in
-    let k = c .before .before .before .loop .k in
-    c .index3 .ensures
-    ∙ ap (λ (g : ℕ). getD ws (gateIndex g + k) 0) (c .before .before .before .before .before .before .index .ensures)
-    ∙ output-at ws k (omega (arith, c .before .before .before .before .index2 .ensures))
-
-below : (c : tie.After-index3 Inv-loop μ-loop) → c .before .before .before .loop .k < length (outputWords (c .before .before .before .before .before .before .before .before .before .args .area .now))
-below c =
-    let s = c .before .before .before .before .before .before .before .before .before in
-    omega (arith, output-count (s .args .area .now) (s .pre), c .before .before .before .before .index2 .ensures)
-
-read : (c : tie.After-index3 Inv-loop μ-loop)
-    → c .index3 .result < inputs (c .before .before .before .before .before .before .before .before .before .args .area .now) + gates (c .before .before .before .before .before .before .before .before .before .args .area .now)
-read c =
-    let s = c .before .before .before .before .before .before .before .before .before in
-    rw (here c) (output-below (s .args .area .now) (s .pre) (c .before .before .before .loop .k) (below c))
-
-fits : (c : tie.After-source-word Inv-loop μ-loop) → c .source-word .result / 2 ≤ unitsInOne
-fits c =
-    let s = c .before .before .before .before .before .before .before .before .before .before in
-    omega (arith, c .source-word .ensures, source-word-fits (s .args .area .now) (s .pre) (c .before .index3 .result) (read (c .before)))
+outputs-requires : tie.Need-outputs-requires Inv-loop μ-loop
+outputs-requires c κs = search needs
 
 loop-holds : tie.Need-loop-holds Inv-loop μ-loop
 loop-holds c = (omega arith, omega arith, refl)
 
+-- a turn's output
+module _ (c : tie.In-loop Inv-loop μ-loop) where
+  abbrev s : tie.Start Inv-loop μ-loop
+  s = c .before .before .before .before .before .before
+
+  abbrev ws : List ℕ
+  ws = s .args .area .now
+
+  abbrev k : ℕ
+  k = c .before .loop .k
+
+  first : c .before .before .before .outputs-index .result ≡ outputsIndex (gates ws)
+  first = c .before .before .before .outputs-index .ensures ∙ ap outputsIndex (c .before .before .before .before .gates .ensures)
+
+  used : k < outputs ws
+  used = omega (arith, c .before .before .outputs .ensures)
+
+  inside : k < length (outputWords ws)
+  inside = omega (arith, used, output-count ws (s .pre .net))
+
 add-index : tie.Need-add-index Inv-loop μ-loop
-add-index c = search needs
+add-index c = omega (arith, first c, used c, s c .pre .net .gates-fit, s c .pre .net .outputs-fit)
 
 mul-index : tie.Need-mul-index Inv-loop μ-loop
-mul-index c = search needs
+mul-index c = omega (arith, first c, used c, s c .pre .net .gates-fit, s c .pre .net .outputs-fit)
 
-shared-slice-read-index-3 : tie.Need-shared-slice-read-index-3 Inv-loop μ-loop
-shared-slice-read-index-3 c = search needs
+shared-slice-read-index : tie.Need-shared-slice-read-index Inv-loop μ-loop
+shared-slice-read-index c = omega (arith, first (c .before), used (c .before), s (c .before) .pre .net .long)
 
-index-requires-3 : tie.Need-index-requires-3 Inv-loop μ-loop
-index-requires-3 c κs = search needs
+index-requires : tie.Need-index-requires Inv-loop μ-loop
+index-requires c κs = search needs
+
+-- the source that it reads, and that source's word
+here : (c : tie.After-index Inv-loop μ-loop) → c .index .result ≡ getD (outputWords (ws (c .before .before))) (k (c .before .before)) 0
+here c =
+    let t = c .before .before in
+    c .index .ensures ∙ ap (λ (x : ℕ). getD (ws t) (x + k t) 0) (first t) ∙ output-at (ws t) (k t) (used t)
+
+read : (c : tie.After-index Inv-loop μ-loop) → c .index .result < inputs (ws (c .before .before)) + gates (ws (c .before .before))
+read c =
+    let t = c .before .before in
+    rw (here c) (output-below (ws t) (s t .pre .net) (k t) (inside t))
+
+fits : (c : tie.After-source-word Inv-loop μ-loop) → c .source-word .result / 2 ≤ unitsInOne
+fits c =
+    let t = c .before .before .before in
+    omega (arith, c .source-word .ensures, source-word-fits (ws t) (s t .pre) (c .before .index .result) (read (c .before)))
 
 source-word-requires : tie.Need-source-word-requires Inv-loop μ-loop
-source-word-requires c κs =
-    let s = c .before .before .before .before .before .before .before .before .before in
-    (s .pre, read c)
+source-word-requires c κs = (s (c .before .before) .pre, read c)
 
 cast-output-step : tie.Need-cast-output-step Inv-loop μ-loop
 cast-output-step c = search needs
@@ -100,13 +102,15 @@ loop-less c = search needs
 
 loop-again : tie.Need-loop-again Inv-loop μ-loop
 loop-again c =
-    let l = c .before .before .before .before .before .loop in
-    let s = c .before .before .before .before .before .before .before .before .before .before .before in
-    let ws = s .args .area .now in (
+    let t = c .before .before .before .before in
+    let l = t .before .loop in (
       omega arith,
-      rw (c .output-step .ensures) (output-at-most unitsInOne (omega arith) (l .reliability) (c .before .source-word .result / 2) (l .inv .1) (fits (c .before))),
-      product-turn (sourceWord ws) (outputWords ws) (l .k) (l .reliability) (c .output-step .result) (below (c .before .before))
-          (c .output-step .ensures ∙ ap (λ (o : ℕ). outputStep unitsInOne (l .reliability) (o / 2)) (c .before .source-word .ensures ∙ ap (sourceWord ws) (here (c .before .before))))
+      rw (c .output-step .ensures)
+          (output-at-most unitsInOne (omega arith) (l .reliability) (c .before .source-word .result / 2) (l .inv .1) (fits (c .before))),
+      product-turn (sourceWord (ws t)) (outputWords (ws t)) (l .k) (l .reliability) (c .output-step .result) (inside t)
+          (c .output-step .ensures
+          ∙ ap (λ (o : ℕ). outputStep unitsInOne (l .reliability) (o / 2))
+          (c .before .source-word .ensures ∙ ap (sourceWord (ws t)) (here (c .before .before))))
           (l .inv .2),
     )
 
@@ -117,10 +121,10 @@ returns : tie.Need-returns Inv-loop μ-loop
 unfolding reliabilityNow
 returns c =
     let l = c .before .loop in
-    let s = c .before .before .before .before .before .before .before in
-    let ws = s .args .area .now in
-    let past : length (outputWords ws) ≤ l .k = omega (arith, output-count ws (s .pre), c .before .before .index2 .ensures) in
-    sym (ap (productFrom (sourceWord ws) (l .reliability)) (drop-of-length-le (outputWords ws) past)) ∙ l .inv .2
+    let t = c .before .before .before .before .before .before in
+    let os = outputWords (t .args .area .now) in
+    let past : length os ≤ l .k = omega (arith, output-count (t .args .area .now) (t .pre .net), c .before .before .outputs .ensures) in
+    sym (ap (productFrom (sourceWord (t .args .area .now)) (l .reliability)) (drop-of-length-le os past)) ∙ l .inv .2
 
 pub reliability-now-spec : {M : Type 1} → statement M
 reliability-now-spec =
@@ -128,17 +132,14 @@ reliability-now-spec =
     (tie.spec
     Inv-loop
     μ-loop
-    shared-slice-read-index
-    index-requires
-    mul-start
-    add-start
-    shared-slice-read-index-2
-    index-requires-2
+    gates-requires
+    outputs-index-requires
+    outputs-requires
     loop-holds
     add-index
     mul-index
-    shared-slice-read-index-3
-    index-requires-3
+    shared-slice-read-index
+    index-requires
     source-word-requires
     cast-output-step
     output-step-requires

@@ -1,100 +1,113 @@
--- `words::set_units` meets its contract. Assumes nothing.
-use Prim.Native.Nat.{ℕ, _+_, _-_, _*_, _≤_, _<_}
-use mathlib.Core.Path.{_≡_, ap, _∙_}
+-- `work::set_units` meets its contract. Assumes nothing.
+use Prim.Native.Nat.{ℕ, _+_, _-_, _≤_, _<_}
 use mathlib.Core.List.{List}
+use mathlib.Core.Path.{_≡_, sym, ap, subst, _∙_}
 use native.Mathlib.Omega.{arith}
-use lib.ListN.{length, set}
-use Rattle.area.specs.Layout.{inputs, gates, flipIndex}
-use Rattle.area.specs.Rules.{Sound}
+use lib.ListN.{length}
+use Rattle.area.specs.Layout.{gates}
+use Rattle.area.specs.Rules.{Workable}
 use Rattle.work.specs.Work.{workGate, setWords}
-use Rattle.work.proofs.Frame.{set-length, same-gates, same-work-gate, same-store-flip}
-use Rattle.work.proofs.Sound.{sound-store-flip, sound-work-gate, sound-work-marked}
+use Rattle.work.proofs.Frame.{same-gates, same-store-flip, same-work-gate, marked-walk, set-kept}
+use Rattle.work.proofs.Sound.{workable-store-flip, workable-work-gate, workable-walk}
 use Rattle.work.proofs.Loops.{set-is}
 use borrow.Author.Needs.{needs}
 use Rattle.work.proofs.set_units.Statement.{statement}
 use Rattle.work.proofs.set_units.Tie as tie
 
--- the area with the flip stored is sound
-abbrev flip-set : tie.Start → List ℕ
-flip-set s = set (s .args .area .now) (flipIndex (s .args .gate)) (s .args .units)
+-- the area with the flip stored
+module _ (c : tie.After-store-flip) where
+  abbrev start : tie.Start
+  start = c .before .before .before .before .before
 
-flipped : (s : tie.Start) → Sound (flip-set s)
-flipped s = sound-store-flip (s .args .area .now) (s .args .gate) (s .args .units) (s .pre .0) (s .pre .1 .0) (s .pre .1 .1)
+  abbrev flipped : List ℕ
+  flipped = c .store-flip .last .0
 
-flipped-below : (s : tie.Start) → s .args .gate < gates (flip-set s)
-flipped-below s = rw (same-gates _ _ (same-store-flip (s .args .area .now) (s .args .gate) (s .args .units) (s .pre .1 .0))) (s .pre .1 .0)
+  flipped-workable : Workable flipped
+  flipped-workable =
+      subst Workable (sym (c .store-flip .ensures))
+      (workable-store-flip (start .args .area .now) (start .args .gate) (start .args .units) (start .pre .0) (start .pre .1 .0) (start .pre .1 .1))
 
--- and so it is once the gate is worked out
-worked : (s : tie.Start) (us : List ℕ) → us ≡ workGate (flip-set s) (s .args .gate) → Sound us × (s .args .gate + 1 ≤ gates us)
-worked s us e = (
-  rw e (sound-work-gate (flip-set s) (s .args .gate) (flipped s) (flipped-below s)),
-  rw (e, same-gates _ _ (same-work-gate (flip-set s) (s .args .gate) (flipped-below s))) (omega (arith, flipped-below s)),
-)
+  flipped-below : start .args .gate < gates flipped
+  flipped-below =
+      omega (
+        arith,
+        ap gates (c .store-flip .ensures),
+        same-gates _ _ (same-store-flip (start .args .area .now) (start .args .gate) (start .args .units) (start .pre .1 .0)),
+        start .pre .1 .0,
+      )
 
-left : (c : tie.After-slice-known5) → c .before .before .work-reliability .last .0 ≡ setWords (c .before .before .before .before .before .before .before .before .before .before .before .before .before .before .before .before .args .area .now) (c .before .before .before .before .before .before .before .before .before .before .before .before .before .before .before .before .args .gate) (c .before .before .before .before .before .before .before .before .before .before .before .before .before .before .before .before .args .units)
+-- and with the gate worked out
+module _ (c : tie.After-work-gate) where
+  abbrev store : tie.After-store-flip
+  store = c .before .before .before .before
+
+  abbrev gate : ℕ
+  gate = start store .args .gate
+
+  abbrev worked : List ℕ
+  worked = c .work-gate .last .0
+
+  worked-workable : Workable worked
+  worked-workable = subst Workable (sym (c .work-gate .ensures)) (workable-work-gate (flipped store) (flipped-workable store) gate (flipped-below store))
+
+  worked-below : gate + 1 ≤ gates worked
+  worked-below =
+      omega (arith, ap gates (c .work-gate .ensures), same-gates _ _ (same-work-gate (flipped store) gate (flipped-below store)), flipped-below store)
+
+-- what the steps come to
+left : (c : tie.After-slice-known5)
+    → c .before .before .work-reliability .last .0
+    ≡ setWords (start (store (c .before .before .before .before .before .before .before .before .before .before .before)) .args .area .now)
+    (start (store (c .before .before .before .before .before .before .before .before .before .before .before)) .args .gate)
+    (start (store (c .before .before .before .before .before .before .before .before .before .before .before)) .args .units)
 left c =
-    let s = c .before .before .before .before .before .before .before .before .before .before .before .before .before .before .before .before in
+    let marked = c .before .before .before .before .before .before in
+    let work = marked .before .before .before .before .before in
+    let s = start (store work) in
+    let inputs = store work .before .before .inputs in
     c .before .before .work-reliability .ensures
-    ∙ set-is (s .args .area .now) (c .before .before .before .before .before .before .before .mark-of .result) (c .before .before .before .before .before .before .before .before .before .before .before .work-gate .last .0) (c .before .before .before .before .before .before .work-marked .last .0) (s .args .gate) (s .args .units) (c .before .before .before .before .before .before .before .before .before .before .before .before .before .index .result + s .args .gate)
+    ∙ set-is (s .args .area .now) (marked .before .mark-of .result) (worked work) (marked .work-marked .last .0) (s .args .gate) (s .args .units)
+    (inputs .result + s .args .gate)
     (s .pre .1 .0)
-    (ap (λ (n : ℕ). n + s .args .gate) (c .before .before .before .before .before .before .before .before .before .before .before .before .before .index .ensures))
-    (c .before .before .before .before .before .before .before .mark-of .ensures)
-    (c .before .before .before .before .before .before .before .before .before .before .before .work-gate .ensures)
-    (c .before .before .before .before .before .before .work-marked .ensures)
+    (ap (λ (n : ℕ). n + s .args .gate) (inputs .ensures))
+    (marked .before .mark-of .ensures)
+    (work .work-gate .ensures ∙ ap (λ (ws : List ℕ). workGate ws (s .args .gate)) (store work .store-flip .ensures))
+    (marked .work-marked .ensures)
 
-slice-read-index : tie.Need-slice-read-index
-slice-read-index c = search needs
-
-index-requires : tie.Need-index-requires
-index-requires c κs = search needs
+inputs-requires : tie.Need-inputs-requires
+inputs-requires c κs = search needs
 
 add-source : tie.Need-add-source
-add-source c = omega (arith, c .index .ensures, c .before .before .before .pre .0 .inputs-fit, c .before .before .before .pre .0 .gates-fit, c .before .before .before .pre .1 .0)
+add-source c = search needs
 
-mul-area : tie.Need-mul-area
-mul-area c = omega (arith, c .before .before .before .pre .0 .gates-fit, c .before .before .before .pre .1 .0)
-
-add-area : tie.Need-add-area
-add-area c = omega (arith, c .before .before .before .pre .0 .gates-fit, c .before .before .before .pre .1 .0)
-
-add-area-2 : tie.Need-add-area-2
-add-area-2 c = omega (arith, c .before .before .before .pre .0 .gates-fit, c .before .before .before .pre .1 .0)
-
-mul-area-2 : tie.Need-mul-area-2
-mul-area-2 c = omega (arith, c .before .before .before .pre .0 .gates-fit, c .before .before .before .pre .1 .0)
-
-slice-write-area : tie.Need-slice-write-area
-slice-write-area c = omega (arith, c .before .before .before .pre .0 .long, c .before .before .before .pre .1 .0)
+store-flip-requires : tie.Need-store-flip-requires
+store-flip-requires c κs = search needs
 
 work-gate-requires : tie.Need-work-gate-requires
-work-gate-requires c κs =
-    let s = c .before .before .before .before in
-    (flipped s, flipped-below s)
+work-gate-requires c κs = (flipped-workable (c .before .before .before), flipped-below (c .before .before .before))
 
 mark-of-requires : tie.Need-mark-of-requires
-mark-of-requires c κs =
-    let s = c .before .before .before .before .before .before .before .before in
-    omega (arith, c .before .before .before .before .before .index .ensures, s .pre .0 .inputs-fit, s .pre .0 .gates-fit, s .pre .1 .0)
+mark-of-requires c κs = search needs
 
 add-work-marked : tie.Need-add-work-marked
 add-work-marked c = search needs
 
 work-marked-requires : tie.Need-work-marked-requires
-work-marked-requires c κs = worked (c .before .before .before .before .before .before .before .before .before) (c .before .before .before .before .work-gate .last .0) (c .before .before .before .before .work-gate .ensures)
+work-marked-requires c κs =
+    let work = c .before .before .before .before in
+    (worked-workable work, worked-below work)
 
 work-reliability-requires : tie.Need-work-reliability-requires
 work-reliability-requires c κs =
-    let s = c .before .before .before .before .before .before .before .before .before .before .before .before .before in
-    let e = c .before .before .before .before .before .before .before .before .work-gate .ensures in
-    rw (c .before .before .before .work-marked .ensures)
-    (sound-work-marked (c .before .before .before .before .before .before .before .before .work-gate .last .0) (c .before .before .before .before .mark-of .result) (s .args .gate + 1) (gates (c .before .before .before .before .before .before .before .before .work-gate .last .0) - (s .args .gate + 1))
-    (worked s (c .before .before .before .before .before .before .before .before .work-gate .last .0) e .0)
-    (omega (arith, worked s (c .before .before .before .before .before .before .before .before .work-gate .last .0) e .1)))
+    let marked = c .before .before .before in
+    let work = marked .before .before .before .before .before in
+    rw (marked .work-marked .ensures)
+    (workable-walk (marked-walk (worked work) (marked .before .mark-of .result) (gate work + 1) (gates (worked work) - (gate work + 1)))
+    (omega (arith, worked-below work))
+    (worked-workable work))
 
 same-length : tie.Need-same-length
-same-length c =
-    let s = c .before .before .before .before .before .before .before .before .before .before .before .before .before .before .before .before in
-    ap length (left c) ∙ set-length (s .args .area .now) (s .args .gate) (s .args .units)
+same-length c = ap length (left c) ∙ set-kept _ _ _ .size
 
 returns : tie.Need-returns
 returns c = left c
@@ -103,14 +116,9 @@ pub set-units-spec : {M : Type 1} → statement M
 set-units-spec =
     tie.close
     (tie.spec
-    slice-read-index
-    index-requires
+    inputs-requires
     add-source
-    mul-area
-    add-area
-    add-area-2
-    mul-area-2
-    slice-write-area
+    store-flip-requires
     work-gate-requires
     mark-of-requires
     add-work-marked

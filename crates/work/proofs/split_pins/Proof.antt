@@ -1,109 +1,110 @@
--- `words::split_pins` meets its contract: each turn leaves out a pin that cannot fail or keeps it. Assumes nothing.
-use Prim.Native.Nat.{ℕ, _+_, _-_, _*_, _/_, _%_, _≤_, _<_}
-use mathlib.Core.List.{List}
+-- `work::split_pins` meets its contract: each turn leaves out a pin that cannot fail or keeps it. Assumes nothing.
+use Prim.Native.Nat.{ℕ, _+_, _-_, _*_, _%_, _≤_, _<_}
 use mathlib.Core.Logic.{⊎-elim}
-use mathlib.Core.Path.{_≡_, refl, sym, ap, _∙_}
+use mathlib.Core.Path.{_≡_, refl, ap, _∙_}
 use native.Mathlib.Omega.{arith}
 use borrow.Author.Needs.{needs}
-use lib.ListN.{getD, set}
-use Rattle.rounding.specs.Rounding.{unitsInOne}
+use lib.ListN.{set}
 use Rattle.figure.proofs.Under.{added}
-use Rattle.area.specs.Layout.{inputs, gates, sourceWord}
+use Rattle.area.specs.Layout.{mostPins, inputs, gates, pinCount, pin, sourceWord}
+use Rattle.area.proofs.Words.{gate-inside, pin-below}
 use Rattle.work.proofs.Sound.{source-word-fits}
 use Rattle.work.proofs.Pinned.{Pinned, pinned-first, pinned-last, pinned-small, pinned-without, pinned-kept}
 use Rattle.work.proofs.split_pins.Statement.{statement}
 use Rattle.work.proofs.split_pins.Tie as tie
 
 abbrev Inv-loop : tie.InvT-loop
-Inv-loop area base count start₀ kept₀ words₀ weights₀ weight₀ i₀ start kept words weights weight i =
-    (i ≤ count) × Pinned area base count start kept words weights weight i
+Inv-loop area gate count start₀ kept₀ words₀ bits₀ bit₀ i₀ start kept words bits bit i = (i ≤ count) × Pinned area gate start kept words bits bit i
 
 abbrev μ-loop : tie.MeasureT-loop
-μ-loop area base count start₀ kept₀ words₀ weights₀ weight₀ i₀ start kept words weights weight i = count - i
+μ-loop area gate count start₀ kept₀ words₀ bits₀ bit₀ i₀ start kept words bits bit i = count - i
+
+pin-count-requires : tie.Need-pin-count-requires Inv-loop μ-loop
+pin-count-requires c κs = gate-inside _ (c .before .pre .0 .net) _ (c .before .pre .1)
 
 loop-holds : tie.Need-loop-holds Inv-loop μ-loop
 loop-holds c =
-    let s = c .before in
-    (omega arith, pinned-first (s .args .area .now) (s .args .base) (s .args .count) (s .pre .1 .0 .0) (s .pre .1 .0 .1) _ _ refl refl)
+    let s = c .before .before in
+    (omega arith, pinned-first (s .args .area .now) (s .pre .0 .net) (s .args .gate) (s .pre .1) _ _ refl refl)
 
-add-index : tie.Need-add-index Inv-loop μ-loop
-add-index c = search needs
+-- a turn's pin is used
+module _ (c : tie.In-loop Inv-loop μ-loop) where
+  abbrev s : tie.Start Inv-loop μ-loop
+  s = c .before .before .before .before
 
-add-index-2 : tie.Need-add-index-2 Inv-loop μ-loop
-add-index-2 c = search needs
+  used : c .before .loop .i < pinCount (s .args .area .now) (s .args .gate)
+  used = omega (arith, c .before .before .pin-count .ensures)
 
-mul-index : tie.Need-mul-index Inv-loop μ-loop
-mul-index c = search needs
+  few : c .before .loop .i < mostPins
+  few = omega (arith, used, s .pre .0 .net .gate (s .args .gate) (s .pre .1) .pin-count)
 
-shared-slice-read-index : tie.Need-shared-slice-read-index Inv-loop μ-loop
-shared-slice-read-index c = search needs
+pin-requires : tie.Need-pin-requires Inv-loop μ-loop
+pin-requires c κs = (few c, gate-inside _ (s c .pre .0 .net) _ (s c .pre .1))
 
-index-requires : tie.Need-index-requires Inv-loop μ-loop
-index-requires c κs = search needs
-
--- the source that a turn reads
-below : (c : tie.After-index Inv-loop μ-loop)
-    → c .index .result < inputs (c .before .before .before .before .before .args .area .now) + gates (c .before .before .before .before .before .args .area .now)
+-- the source that it reads
+below : (c : tie.After-pin Inv-loop μ-loop) → c .pin .result < inputs (s (c .before) .args .area .now) + gates (s (c .before) .args .area .now)
 below c =
-    let s = c .before .before .before .before .before in
-    rw (c .index .ensures) (s .pre .1 .1 (c .before .before .before .loop .i) (omega arith))
+    let t = s (c .before) in
+    omega (arith, c .pin .ensures, pin-below (t .args .area .now) (t .pre .0 .net) (t .args .gate) (t .pre .1) _ (used (c .before)), t .pre .1)
 
 source-word-requires : tie.Need-source-word-requires Inv-loop μ-loop
-source-word-requires c κs = (c .before .before .before .before .before .pre .0, below c)
+source-word-requires c κs = (s (c .before) .pre .0, below c)
 
--- a turn's pin: the index and the weight are small, and what is left after it
+-- the index and the bit are small, and what is left after the turn
 module _ (c : tie.After-source-word Inv-loop μ-loop) where
-  abbrev s : tie.Start Inv-loop μ-loop
-  s = c .before .before .before .before .before .before
+  abbrev t : tie.Start Inv-loop μ-loop
+  t = s (c .before .before)
 
   abbrev a : tie.At-loop Inv-loop μ-loop
-  a = c .before .before .before .before
+  a = c .before .before .before
 
-  small : (a .loop .weight ≤ 15) × (a .loop .start ≤ 15)
-  small =
-      pinned-small (s .args .area .now) (s .args .base) (s .args .count) (s .pre .1 .0 .0) (s .pre .1 .0 .1) (a .loop .start) (a .loop .kept) (a .loop .words)
-      (a .loop .weights) (a .loop .weight) (a .loop .i) (c .before .index .result) (c .source-word .result) (omega arith) (a .loop .inv .1)
-      (c .before .index .ensures) (c .source-word .ensures)
+  abbrev word : ℕ
+  word = c .source-word .result
 
-  without : c .source-word .result < 2
-      → Pinned (s .args .area .now) (s .args .base) (s .args .count) (a .loop .start + c .source-word .result % 2 * a .loop .weight) (a .loop .kept) (a .loop .words)
-      (a .loop .weights) (a .loop .weight * 2) (a .loop .i + 1)
-  without =
-      pinned-without (s .args .area .now) (s .args .base) (s .args .count) (s .pre .1 .0 .0) (s .pre .1 .0 .1) (a .loop .start) (a .loop .kept) (a .loop .words)
-      (a .loop .weights) (a .loop .weight) (a .loop .i) (c .before .index .result) (c .source-word .result) (omega arith) (a .loop .inv .1)
-      (c .before .index .ensures) (c .source-word .ensures)
+  read : word ≡ sourceWord (t .args .area .now) (pin (t .args .area .now) (t .args .gate) (a .loop .i))
+  read = c .source-word .ensures ∙ ap (sourceWord (t .args .area .now)) (c .before .pin .ensures)
 
-  kept : Pinned (s .args .area .now) (s .args .base) (s .args .count) (a .loop .start) (a .loop .kept + 1) (set (a .loop .words) (a .loop .kept) (c .source-word .result))
-      (set (a .loop .weights) (a .loop .kept) (a .loop .weight)) (a .loop .weight * 2) (a .loop .i + 1)
+  small : (a .loop .bit ≤ 15) × (a .loop .start ≤ 15)
+  small = pinned-small _ (t .pre .0 .net) _ (t .pre .1) _ _ _ _ _ _ (a .loop .inv .1) (used (c .before .before)) word read
+
+  without : word < 2
+      → Pinned (t .args .area .now) (t .args .gate) (a .loop .start + word % 2 * a .loop .bit) (a .loop .kept) (a .loop .words) (a .loop .bits)
+      (a .loop .bit * 2) (a .loop .i + 1)
+  without = pinned-without _ (t .pre .0 .net) _ (t .pre .1) _ _ _ _ _ _ (a .loop .inv .1) (used (c .before .before)) word read
+
+  kept : Pinned (t .args .area .now) (t .args .gate) (a .loop .start) (a .loop .kept + 1) (set (a .loop .words) (a .loop .kept) word)
+      (set (a .loop .bits) (a .loop .kept) (a .loop .bit)) (a .loop .bit * 2) (a .loop .i + 1)
   kept =
-      pinned-kept (s .args .area .now) (s .args .base) (s .args .count) (s .pre .1 .0 .0) (s .pre .1 .0 .1) (a .loop .start) (a .loop .kept) (a .loop .words)
-      (a .loop .weights) (a .loop .weight) (a .loop .i) (c .before .index .result) (c .source-word .result) (omega arith) (a .loop .inv .1)
-      (c .before .index .ensures) (c .source-word .ensures)
-      (omega (arith, c .source-word .ensures, source-word-fits (s .args .area .now) (s .pre .0) (c .before .index .result) (below (c .before))))
+      pinned-kept _ (t .pre .0 .net) _ (t .pre .1) _ _ _ _ _ _ (a .loop .inv .1) (used (c .before .before)) word read
+      (omega (arith, c .source-word .ensures, source-word-fits (t .args .area .now) (t .pre .0) (c .before .pin .result) (below (c .before))))
+
+  -- there is room for one more
+  room : a .loop .kept < mostPins
+  room = omega (arith, few (c .before .before), a .loop .inv .1 .few)
 
 mul-start : tie.Need-mul-start Inv-loop μ-loop
-mul-start c = omega (arith, added (c .before .source-word .result) (a (c .before) .loop .weight), small (c .before) .0)
+mul-start c = omega (arith, added (word (c .before)) (a (c .before) .loop .bit), small (c .before) .0)
 
 add-start : tie.Need-add-start Inv-loop μ-loop
-add-start c = omega (arith, added (c .before .source-word .result) (a (c .before) .loop .weight), small (c .before) .0, small (c .before) .1)
+add-start c = omega (arith, added (word (c .before)) (a (c .before) .loop .bit), small (c .before) .0, small (c .before) .1)
 
 mul-words : tie.Need-mul-words Inv-loop μ-loop
-mul-words c = omega (arith, a (c .before) .loop .inv .1 .few)
+mul-words c = omega (arith, room (c .before))
 
 array-write-words : tie.Need-array-write-words Inv-loop μ-loop
-array-write-words c = omega (arith, a (c .before) .loop .inv .1 .few)
+array-write-words c = omega (arith, room (c .before))
 
-mul-weights : tie.Need-mul-weights Inv-loop μ-loop
-mul-weights c = omega (arith, a (c .before) .loop .inv .1 .few)
+mul-bits : tie.Need-mul-bits Inv-loop μ-loop
+mul-bits c = omega (arith, room (c .before))
 
-array-write-weights : tie.Need-array-write-weights Inv-loop μ-loop
-array-write-weights c = omega (arith, a (c .before) .loop .inv .1 .few)
+array-write-bits : tie.Need-array-write-bits Inv-loop μ-loop
+array-write-bits c = omega (arith, room (c .before))
 
 add-kept : tie.Need-add-kept Inv-loop μ-loop
-add-kept c = omega (arith, a (c .before) .loop .inv .1 .few)
+add-kept c = omega (arith, room (c .before))
 
-mul-weight : tie.Need-mul-weight Inv-loop μ-loop
-mul-weight c = omega (arith, small (c .before) .0)
+mul-bit : tie.Need-mul-bit Inv-loop μ-loop
+mul-bit c = omega (arith, small (c .before) .0)
 
 add-i : tie.Need-add-i Inv-loop μ-loop
 add-i c = search needs
@@ -122,11 +123,11 @@ loop-again c = (
 
 returns : tie.Need-returns Inv-loop μ-loop
 returns c =
-    let s = c .before .before .before in
-    let l = c .before .loop in (
-      (omega (arith, l .inv .1 .few, s .pre .1 .0 .0), l .inv .1 .failures),
-      pinned-last (s .args .area .now) (s .args .base) (s .args .count) (s .pre .1 .0 .0) (s .pre .1 .0 .1) (l .start) (l .kept) (l .words) (l .weights) (l .weight)
-          (l .i) (omega arith) (l .inv .1),
+    let s = c .before .before .before .before in
+    let l = c .before .loop in
+    let count = c .before .before .pin-count .ensures in (
+      (omega (arith, l .inv .1 .few, count, s .pre .0 .net .gate (s .args .gate) (s .pre .1) .pin-count), l .inv .1 .failures),
+      pinned-last _ (s .pre .0 .net) _ (s .pre .1) _ _ _ _ _ _ (l .inv .1) (omega (arith, count)),
     )
 
 pub split-pins-spec : {M : Type 1} → statement M
@@ -135,21 +136,18 @@ split-pins-spec =
     (tie.spec
     Inv-loop
     μ-loop
+    pin-count-requires
     loop-holds
-    add-index
-    add-index-2
-    mul-index
-    shared-slice-read-index
-    index-requires
+    pin-requires
     source-word-requires
     mul-start
     add-start
     mul-words
     array-write-words
-    mul-weights
-    array-write-weights
+    mul-bits
+    array-write-bits
     add-kept
-    mul-weight
+    mul-bit
     add-i
     loop-less
     loop-again

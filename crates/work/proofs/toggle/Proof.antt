@@ -1,33 +1,48 @@
--- `words::toggle` meets its contract. Assumes nothing.
-use Prim.Native.Nat.{ℕ, _-_, _≤_, _<_}
-use mathlib.Core.Path.{_≡_, ap, _∙_}
+-- `work::toggle` meets its contract. Assumes nothing.
+use Prim.Native.Nat.{ℕ, _-_}
+use mathlib.Core.List.{List}
+use mathlib.Core.Path.{_≡_, sym, ap, subst, _∙_}
 use native.Mathlib.Omega.{arith}
 use lib.ListN.{length, set}
-use Rattle.area.specs.Layout.{inputs, gates, pattern}
-use Rattle.area.specs.Rules.{Sound}
-use Rattle.work.specs.Work.{workMarked, markOf, invertBit, toggleWords}
-use Rattle.work.proofs.Frame.{toggle-length}
-use Rattle.work.proofs.Pattern.{invert-fits}
-use Rattle.work.proofs.Sound.{sound-store-pattern, sound-work-marked}
-use Rattle.work.proofs.Bit.{pattern-small}
+use Rattle.area.specs.Layout.{gates, patternIndex}
+use Rattle.area.specs.Rules.{Workable}
+use Rattle.work.specs.Work.{toggleWords}
+use Rattle.work.proofs.Frame.{marked-walk, toggle-kept}
+use Rattle.work.proofs.Pattern.{pattern-small, invert-fits}
+use Rattle.work.proofs.Sound.{workable-store-pattern, workable-walk}
 use Rattle.work.proofs.Loops.{toggle-is}
 use borrow.Author.Needs.{needs}
 use Rattle.work.proofs.toggle.Statement.{statement}
 use Rattle.work.proofs.toggle.Tie as tie
 
--- the area with its pattern stored is sound
-stored : (s : tie.Start) (q : ℕ) → q ≡ invertBit (pattern (s .args .area .now)) (s .args .input) → Sound (set (s .args .area .now) 3 q)
-stored s q e =
-    rw e (sound-store-pattern (s .args .area .now) _ (s .pre .0) (invert-fits _ (s .args .input) _ (s .pre .1) (s .pre .0 .pattern-fits)))
+-- the area with its pattern stored
+module _ (c : tie.After-inverted-bit) where
+  abbrev start : tie.Start
+  start = c .before .before .before
 
-left : (c : tie.After-slice-known4) → c .before .before .work-reliability .last .0 ≡ toggleWords (c .before .before .before .before .before .before .before .before .before .before .before .before .args .area .now) (c .before .before .before .before .before .before .before .before .before .before .before .before .args .input)
+  abbrev stored : List ℕ
+  stored = set (start .args .area .now) patternIndex (c .inverted-bit .result)
+
+  stored-workable : Workable stored
+  stored-workable =
+      subst (λ (q : ℕ). Workable (set (start .args .area .now) patternIndex q)) (sym (c .inverted-bit .ensures))
+      (workable-store-pattern (start .args .area .now) _ (start .pre .0)
+      (invert-fits _ (start .args .input) _ (start .pre .1) (start .pre .0 .figures .pattern-fits)))
+
+-- what the steps come to
+left : (c : tie.After-slice-known4)
+    → c .before .before .work-reliability .last .0
+    ≡ toggleWords (start (c .before .before .before .before .before .before .before .before .before) .args .area .now)
+    (start (c .before .before .before .before .before .before .before .before .before) .args .input)
 left c =
-    let s = c .before .before .before .before .before .before .before .before .before .before .before .before in
+    let marked = c .before .before .before .before .before .before in
+    let inverted = marked .before .before .before in
     c .before .before .work-reliability .ensures
-    ∙ toggle-is (s .args .area .now) (c .before .before .before .before .before .before .before .mark-of .result) (c .before .before .before .before .before .before .work-marked .last .0) (s .args .input) (c .before .before .before .before .before .before .before .before .before .inverted-bit .result)
-    (c .before .before .before .before .before .before .before .before .before .inverted-bit .ensures)
-    (c .before .before .before .before .before .before .before .mark-of .ensures)
-    (c .before .before .before .before .before .before .work-marked .ensures)
+    ∙ toggle-is (start inverted .args .area .now) (marked .before .mark-of .result) (marked .work-marked .last .0) (start inverted .args .input)
+    (inverted .inverted-bit .result)
+    (inverted .inverted-bit .ensures)
+    (marked .before .mark-of .ensures)
+    (marked .work-marked .ensures)
 
 slice-read-inverted-bit : tie.Need-slice-read-inverted-bit
 slice-read-inverted-bit c = search needs
@@ -35,33 +50,26 @@ slice-read-inverted-bit c = search needs
 inverted-bit-requires : tie.Need-inverted-bit-requires
 inverted-bit-requires c κs =
     let s = c .before .before in
-    (omega (arith, s .pre .0 .inputs-fit, s .pre .1), pattern-small (s .args .area .now) (s .pre .0))
+    (omega (arith, s .pre .0 .net .inputs-fit, s .pre .1), pattern-small (s .args .area .now) (s .pre .0))
 
 slice-write-area : tie.Need-slice-write-area
 slice-write-area c = search needs
 
 mark-of-requires : tie.Need-mark-of-requires
-mark-of-requires c κs =
-    let s = c .before .before .before .before in
-    omega (arith, s .pre .0 .inputs-fit, s .pre .1)
+mark-of-requires c κs = search needs
 
 work-marked-requires : tie.Need-work-marked-requires
-work-marked-requires c κs =
-    let s = c .before .before .before .before .before in
-    (stored s (c .before .before .inverted-bit .result) (c .before .before .inverted-bit .ensures), omega arith)
+work-marked-requires c κs = (stored-workable (c .before .before), omega arith)
 
 work-reliability-requires : tie.Need-work-reliability-requires
 work-reliability-requires c κs =
-    let s = c .before .before .before .before .before .before .before .before .before in
-    rw (c .before .before .before .work-marked .ensures)
-    (sound-work-marked (set (s .args .area .now) 3 (c .before .before .before .before .before .before .inverted-bit .result)) (c .before .before .before .before .mark-of .result) 0 (gates (set (s .args .area .now) 3 (c .before .before .before .before .before .before .inverted-bit .result)) - 0)
-    (stored s (c .before .before .before .before .before .before .inverted-bit .result) (c .before .before .before .before .before .before .inverted-bit .ensures))
-    (omega arith))
+    let marked = c .before .before .before in
+    let inverted = marked .before .before .before in
+    rw (marked .work-marked .ensures)
+    (workable-walk (marked-walk (stored inverted) (marked .before .mark-of .result) 0 (gates (stored inverted) - 0)) (omega arith) (stored-workable inverted))
 
 same-length : tie.Need-same-length
-same-length c =
-    let s = c .before .before .before .before .before .before .before .before .before .before .before .before in
-    ap length (left c) ∙ toggle-length (s .args .area .now) (s .args .input)
+same-length c = ap length (left c) ∙ toggle-kept _ _ .size
 
 returns : tie.Need-returns
 returns c = left c

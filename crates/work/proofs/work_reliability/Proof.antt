@@ -1,6 +1,7 @@
--- `words::work_reliability` meets its contract. Assumes nothing.
+-- `work::work_reliability` meets its contract. Assumes nothing.
 use mathlib.Core.Path.{ap}
 use lib.ListN.{set}
+use Rattle.area.specs.Layout.{reliabilityIndex}
 use Rattle.work.specs.Work.{workReliability}
 use borrow.Author.Needs.{needs}
 use Rattle.work.proofs.work_reliability.Statement.{statement}
@@ -17,7 +18,7 @@ same-length c = search needs
 
 returns : tie.Need-returns
 unfolding workReliability
-returns c = ap (set (c .before .before .before .args .area .now) 4) (c .reliability-now .ensures)
+returns c = ap (set (c .before .before .before .args .area .now) reliabilityIndex) (c .reliability-now .ensures)
 
 pub work-reliability-spec : {M : Type 1} → statement M
 work-reliability-spec =

@@ -1,10 +1,10 @@
--- The sheets of document 01 on chances, as one table: a kind, the eight bytes of a field, and what reading them in units answers.
--- Proved by computing the definitions. Assumes nothing.
+-- Fields that say no chance, or chance 0, as one table: a kind, the eight bytes of a field, and what reading them in units answers. The conversions of
+-- document 01's sheets are in the table of crate calls. By computation. Assumes nothing.
 use Prim.Native.Nat.{ℕ}
 use mathlib.Core.Path.{_≡_, refl}
 use mathlib.Core.List.{List, [], _∷_}
 use lib.Ieee.{ofBits}
-use Rattle.rounding.specs.Rounding.{unitsInOne, roundDiv, toUnits}
+use Rattle.rounding.specs.Rounding.{roundDiv, toUnits}
 use Rattle.chance.specs.declared.FlipUnits.{FlipUnits}
 use Rattle.chance.specs.declared.FlipUnits.the-variants.{Units, Refused}
 use Rattle.chance.specs.Number.{chanceScale, wholeChance, fromZeroToOne}
@@ -20,13 +20,7 @@ row kind a b c d e f g h answer = record { kind = kind; field = a ∷ b ∷ c �
 
 abbrev pub rows : List Row
 rows =
-    row 1 0x9a 0x99 0x99 0x99 0x99 0x99 0xa9 0x3f (Units 53_687_091)  -- 0.05
-    ∷ row 1 0x00 0x00 0x00 0x00 0x00 0x00 0xe0 0x3f (Units 536_870_912)  -- 0.5
-    ∷ row 1 0x00 0x00 0x00 0x00 0x00 0x00 0xf0 0x3f (Units unitsInOne)  -- 1: U
-    ∷ row 1 0x00 0x00 0x00 0x00 0x00 0x00 0x00 0x3e (Units 1)  -- 2^-31, a half unit
-    ∷ row 1 0x00 0x00 0x00 0x00 0x00 0x00 0xf0 0x3d (Units 0)  -- 2^-32
-    ∷ row 2 0x00 0x00 0x80 0x37 0x00 0x00 0x00 0x38 (Units 1)  -- a strike of 2^-16 with window 2^-15
-    ∷ row 0 0x00 0x00 0x00 0x00 0x00 0x00 0x00 0x00 (Units 0)  -- never
+    row 0 0x00 0x00 0x00 0x00 0x00 0x00 0x00 0x00 (Units 0)  -- never
     ∷ row 1 0x00 0x00 0x00 0x00 0x00 0x00 0x00 0x80 (Units 0)  -- minus zero
     ∷ row 1 0x00 0x00 0x00 0x00 0x00 0x00 0xf8 0x7f Refused  -- not a number
     ∷ row 1 0x00 0x00 0x00 0x00 0x00 0x00 0xf0 0x7f Refused  -- infinity
@@ -40,9 +34,9 @@ abbrev pub Right : List Row → Type 0
 Right [] = Unit {0}
 Right (r ∷ rs) = (readUnits (r .kind) (r .field) ≡ r .answer) × Right rs
 
-pub sheets : Right rows
+pub fields : Right rows
 unfolding readUnits flipUnits flipAccepted flipOf inRange fromZeroToOne ofBits flipChance chanceOf wholeChance chanceScale toUnits roundDiv
-sheets = (refl, (refl, (refl, (refl, (refl, (refl, (refl, (refl, (refl, (refl, (refl, (refl, (refl, (refl, tt))))))))))))))
+fields = (refl, (refl, (refl, (refl, (refl, (refl, (refl, (refl, tt))))))))
 
 -- minus zero is the chance 0 itself, before conversion
 pub minus-zero : flipChance 1 (0 ∷ 0 ∷ 0 ∷ 0 ∷ 0 ∷ 0 ∷ 0 ∷ 0x80 ∷ []) ≡ 0

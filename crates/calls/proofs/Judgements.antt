@@ -1,0 +1,123 @@
+-- The refusals of the calls, walked once: what a call that is not refused knows of its arguments, and which numbers a call may give. Assumes nothing.
+use Prim.Native.Nat.{ℕ, _^_, _≤_, _<_}
+use mathlib.Core.Bool.{Bool, true, false, not}
+use mathlib.Core.List.{List}
+use mathlib.Core.Path.{_≡_, refl, sym, _∙_}
+use native.Mathlib.Omega.{arith}
+use borrow.Author.Tests.{leb-true, ltb-true, eqb-true, not-true, lt-ltb, le-ltb}
+use lib.Dec.{leb, ltb, eqb}
+use lib.ListN.{length, getD}
+use Rattle.lists.specs.Lists.{allZero}
+use Rattle.refusal.specs.declared.Judgement.{Judgement}
+use Rattle.refusal.specs.declared.Judgement.the-variants.{Fine, Refused}
+use Rattle.refusal.specs.Judgement.{refuseUnless, otherwise, lowest}
+use Rattle.refusal.proofs.Laws.{unless-fine, otherwise-fine, otherwise-second, otherwise-first, lowest-fine}
+use Rattle.refusal.proofs.Laws.{Only, BelowRule, only-fine, only-unless, only-otherwise, only-lowest}
+use Rattle.chance.specs.Flip.{flipAccepted}
+use Rattle.area.specs.Layout.{largestWeight, inputs, gates, needed}
+use Rattle.area.specs.Rules.{roomJudgement, areaJudgement, Sound}
+use Rattle.live.specs.Shared.{sharedJudgement}
+use Rattle.live.proofs.Shared.{only-shared}
+use Rattle.rules.proofs.Sound.{sound, sound-passes}
+use Rattle.image.specs.Image.{imageGates, imageOutputs}
+use Rattle.image.specs.Refusals.{imageRefusal}
+use Rattle.image.specs.Netlist.{imageNet}
+use Rattle.image.proofs.Numbers.{only-image}
+use Rattle.calls.specs.Judgements.{Call, open-image, toggle-input, set-flip, read-netlist, read-gate, take-average}
+use Rattle.calls.specs.Judgements.{named, flipJudgement, weightJudgement, weightsJudgement, WeightsFit, openJudgement, argumentJudgement, lentJudgement, judgement}
+
+-- ---- 10, 11, 12, 13
+
+pub named-fine : (x count : ℕ) → named x count ≡ Fine → x < count
+named-fine x count e = ltb-true x count (unless-fine (ltb x count) 10 x e)
+
+pub fine-named : (x count : ℕ) → x < count → named x count ≡ Fine
+fine-named x count l = rw (lt-ltb x count l) refl
+
+pub named-past : (x count : ℕ) → count ≤ x → named x count ≡ Refused 10 x
+named-past x count l = rw (le-ltb x count l) refl
+
+pub room-fine : (g k size : ℕ) → roomJudgement g k size ≡ Fine → needed g k ≤ size
+room-fine g k size e = leb-true (needed g k) size (unless-fine (leb (needed g k) size) 13 0 e)
+
+pub weights-fine : (n : ℕ) (weights : List ℕ) → weightsJudgement n weights ≡ Fine → WeightsFit n weights
+unfolding weightsJudgement
+weights-fine n weights e =
+    let first = otherwise-fine (refuseUnless (eqb (length weights) (2 ^ n)) 12 0) _ e in
+    let later = otherwise-fine (lowest (weightJudgement weights) (length weights)) _ (first .1) in
+    record {
+      one-each = eqb-true _ _ (unless-fine _ 12 0 (first .0));
+      small = λ q l. leb-true _ _ (unless-fine _ 12 q (lowest-fine (weightJudgement weights) (length weights) q l (later .0)));
+      some = not-true _ (unless-fine _ 12 0 (later .1));
+    }
+
+-- ---- a call on an open area
+
+pub set-fine : (n g x kind : ℕ) (field : List ℕ) → argumentJudgement n g (set-flip x kind field) ≡ Fine → (x < g) × (flipAccepted kind field ≡ true)
+unfolding argumentJudgement
+set-fine n g x kind field e =
+    let both = otherwise-fine (named x g) (flipJudgement x kind field) e in
+    (named-fine x g (both .0), unless-fine (flipAccepted kind field) 11 x (both .1))
+
+pub lent-fine : (ws : List ℕ) (call : Call) → lentJudgement ws call ≡ Fine → Sound ws × (argumentJudgement (inputs ws) (gates ws) call ≡ Fine)
+unfolding lentJudgement
+lent-fine ws call e =
+    let both = otherwise-fine (areaJudgement ws) (argumentJudgement (inputs ws) (gates ws) call) e in
+    (sound ws (both .0), both .1)
+
+-- of a sound area the arguments decide; the refusal of another stops the call
+pub lent-sound : (ws : List ℕ) (call : Call) → Sound ws → lentJudgement ws call ≡ argumentJudgement (inputs ws) (gates ws) call
+unfolding lentJudgement
+lent-sound ws call s = otherwise-second (areaJudgement ws) (argumentJudgement (inputs ws) (gates ws) call) (sound-passes ws s)
+
+pub lent-stopped : (ws : List ℕ) (call : Call) (a p : ℕ) → areaJudgement ws ≡ Refused a p → lentJudgement ws call ≡ Refused a p
+unfolding lentJudgement
+lent-stopped ws call a p e = otherwise-first (areaJudgement ws) (argumentJudgement (inputs ws) (gates ws) call) a p e
+
+-- ---- opening
+
+pub record OpenFine (bs : List ℕ) (size : ℕ) : Type 0 where
+  pub image : imageRefusal bs ≡ Fine
+  pub shared : sharedJudgement (imageNet bs) ≡ Fine
+  pub room : needed (imageGates bs) (imageOutputs bs) ≤ size
+
+pub open-fine : (bs : List ℕ) (size : ℕ) → openJudgement bs size ≡ Fine → OpenFine bs size
+unfolding openJudgement
+open-fine bs size e =
+    let image = otherwise-fine (imageRefusal bs) _ e in
+    let shared = otherwise-fine (sharedJudgement (imageNet bs)) _ (image .1) in
+    record { image = image .0; shared = shared .0; room = room-fine (imageGates bs) (imageOutputs bs) size (shared .1) }
+
+-- ---- the numbers: none is 0, and 14 is the area's alone
+
+pub only-room : (g k size : ℕ) → Only BelowRule (roomJudgement g k size)
+only-room g k size = only-unless BelowRule (leb (needed g k) size) 13 0 (omega arith, omega arith)
+
+only-weights : (n : ℕ) (weights : List ℕ) → Only BelowRule (weightsJudgement n weights)
+unfolding weightsJudgement
+only-weights n weights =
+    let one : (c : Bool) (p : ℕ) → Only BelowRule (refuseUnless c 12 p) = λ c p. only-unless BelowRule c 12 p (omega arith, omega arith) in
+    only-otherwise BelowRule _ _ (one (eqb (length weights) (2 ^ n)) 0)
+    (only-otherwise BelowRule _ _
+    (only-lowest BelowRule (weightJudgement weights) (length weights) (λ q. one (leb (getD weights q 0) largestWeight) q))
+    (one (not (allZero weights)) 0))
+
+only-named : (x count : ℕ) → Only BelowRule (named x count)
+only-named x count = only-unless BelowRule (ltb x count) 10 x (omega arith, omega arith)
+
+pub only-arguments : (n g : ℕ) (call : Call) → Only BelowRule (argumentJudgement n g call)
+unfolding argumentJudgement
+only-arguments n g (open-image bs) = only-fine BelowRule
+only-arguments n g (toggle-input i) = only-named i n
+only-arguments n g (set-flip x kind field) =
+    only-otherwise BelowRule (named x g) (flipJudgement x kind field) (only-named x g)
+    (only-unless BelowRule (flipAccepted kind field) 11 x (omega arith, omega arith))
+only-arguments n g read-netlist = only-fine BelowRule
+only-arguments n g (read-gate x) = only-named x g
+only-arguments n g (take-average weights) = only-weights n weights
+
+pub only-open : (bs : List ℕ) (size : ℕ) → Only BelowRule (openJudgement bs size)
+unfolding openJudgement
+only-open bs size =
+    only-otherwise BelowRule _ _ (only-image bs)
+    (only-otherwise BelowRule _ _ (only-shared (imageNet bs)) (only-room (imageGates bs) (imageOutputs bs) size))

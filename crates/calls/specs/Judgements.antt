@@ -1,0 +1,77 @@
+-- A call as data, and the refusal that it gets, in document 01's order: at opening 1 to 8, then 9, then 13; elsewhere 13 and 14 of the area, then 10, 11, 12.
+use Prim.Native.Nat.{ℕ, _^_, _≤_, _<_}
+use mathlib.Core.Bool.{false, not}
+use mathlib.Core.List.{List}
+use mathlib.Core.Path.{_≡_}
+use lib.Dec.{leb, ltb, eqb}
+use lib.ListN.{length, getD}
+use Rattle.lists.specs.Lists.{allZero}
+use Rattle.refusal.specs.declared.Judgement.{Judgement}
+use Rattle.refusal.specs.declared.Judgement.the-variants.{Fine}
+use Rattle.refusal.specs.Judgement.{refuseUnless, otherwise, lowest}
+use Rattle.chance.specs.Flip.{flipAccepted}
+use Rattle.area.specs.Layout.{largestWeight, inputs, gates}
+use Rattle.area.specs.Rules.{roomJudgement, areaJudgement}
+use Rattle.live.specs.Shared.{sharedJudgement}
+use Rattle.image.specs.Image.{imageGates, imageOutputs}
+use Rattle.image.specs.Refusals.{imageRefusal}
+use Rattle.image.specs.Netlist.{imageNet}
+
+-- the calls that are lent an area, with their other arguments
+pub data Call : Type 0 where
+  open-image : List ℕ → Call
+  toggle-input : ℕ → Call
+  set-flip : ℕ → ℕ → List ℕ → Call
+  read-netlist : Call
+  read-gate : ℕ → Call
+  take-average : List ℕ → Call
+
+-- 10: a call names an input or a gate that does not exist
+abbrev pub named : ℕ → ℕ → Judgement
+named x count = refuseUnless (ltb x count) 10 x
+
+-- 11: a call's flip kind or field is bad by 7
+abbrev pub flipJudgement : ℕ → ℕ → List ℕ → Judgement
+flipJudgement g kind field = refuseUnless (flipAccepted kind field) 11 g
+
+-- 12: the length of the weights, else the lowest one above 1,048,575, else all zero
+abbrev pub weightJudgement : List ℕ → ℕ → Judgement
+weightJudgement weights q = refuseUnless (leb (getD weights q 0) largestWeight) 12 q
+
+unfoldable pub weightsJudgement : ℕ → List ℕ → Judgement
+weightsJudgement n weights =
+    otherwise (refuseUnless (eqb (length weights) (2 ^ n)) 12 0)
+    (otherwise (lowest (weightJudgement weights) (length weights)) (refuseUnless (not (allZero weights)) 12 0))
+
+-- what is known of weights that pass
+pub record WeightsFit (n : ℕ) (weights : List ℕ) : Type 0 where
+  pub one-each : length weights ≡ 2 ^ n
+  pub small : (q : ℕ) → q < length weights → getD weights q 0 ≤ largestWeight
+  pub some : allZero weights ≡ false
+
+-- opening an image into an area of `size` words
+unfoldable pub openJudgement : List ℕ → ℕ → Judgement
+openJudgement bs size =
+    otherwise (imageRefusal bs) (otherwise (sharedJudgement (imageNet bs)) (roomJudgement (imageGates bs) (imageOutputs bs) size))
+
+-- 10, 11 and 12 of a call on a netlist with n inputs and g gates; an image is judged by itself
+unfoldable pub argumentJudgement : ℕ → ℕ → Call → Judgement
+argumentJudgement n g (open-image bs) = Fine
+argumentJudgement n g (toggle-input i) = named i n
+argumentJudgement n g (set-flip x kind field) = otherwise (named x g) (flipJudgement x kind field)
+argumentJudgement n g read-netlist = Fine
+argumentJudgement n g (read-gate x) = named x g
+argumentJudgement n g (take-average weights) = weightsJudgement n weights
+
+-- a call on an open area: the area's own refusal, then the arguments'
+unfoldable pub lentJudgement : List ℕ → Call → Judgement
+lentJudgement ws call = otherwise (areaJudgement ws) (argumentJudgement (inputs ws) (gates ws) call)
+
+-- the refusal that a call gets on an area whose words are ws
+abbrev pub judgement : List ℕ → Call → Judgement
+judgement ws (open-image bs) = openJudgement bs (length ws)
+judgement ws (toggle-input i) = lentJudgement ws (toggle-input i)
+judgement ws (set-flip g kind field) = lentJudgement ws (set-flip g kind field)
+judgement ws read-netlist = lentJudgement ws read-netlist
+judgement ws (read-gate g) = lentJudgement ws (read-gate g)
+judgement ws (take-average weights) = lentJudgement ws (take-average weights)
