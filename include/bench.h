@@ -3,7 +3,28 @@
  *
  * Link with target/staticlib/libbench_c.a, which `rt staticlib bench_c` writes (x86-64). Every
  * function below is proved to do what its contract in crates/bench_c/src/lib.rt says, for all
- * arguments that keep the rules on pointers.
+ * arguments that keep the rules on pointers. docs/SCOPE.md says in full what is computed.
+ *
+ *
+ * AN EXAMPLE
+ *
+ * This is examples/open.c. It opens the image on standard input and reads the netlist:
+ *
+ *     #include "bench.h"
+ *     #include <stdio.h>
+ *
+ *     int main(void) {
+ *         static uint8_t image[BENCH_IMAGE_MAX + 1];
+ *         static uint32_t area[BENCH_WORDS_MAX];
+ *         uint32_t live, pattern, units;
+ *         double reliability;
+ *         size_t length = fread(image, 1, sizeof image, stdin);
+ *         uint64_t answer = bench_open(area, BENCH_WORDS_MAX, image, length, &live);
+ *         if (answer == 0) answer = bench_read_netlist(area, BENCH_WORDS_MAX, &pattern, &units, &reliability);
+ *         if (answer == 0) printf("live %u, pattern %u: %u units, %.9f\n", live, pattern, units, reliability);
+ *         else printf("refused %u %u\n", BENCH_NUMBER(answer), BENCH_PLACE(answer));
+ *         return answer != 0;
+ *     }
  *
  *
  * UNITS
@@ -21,8 +42,26 @@
  *     then eight a gate: pin count, truth table, four pins, flip units, 2 * failure + right value
  *     then one a output: its source
  *
- * Words after these are never written. Bit i of the pattern is input i. The library keeps nothing
+ * Words past these are never written. Bit i of the pattern is input i. The library keeps nothing
  * between two calls: an area may be copied, stored, and used again later.
+ *
+ *
+ * THE IMAGE
+ *
+ * An image describes a netlist in at most BENCH_IMAGE_MAX bytes, every number little-endian: a heading
+ * of any bytes, which is not looked at; G gate records; K output words; a trailer.
+ *
+ *     gate record, 20 bytes         0 u8 pin count   1 u8 flip kind   2 u16 truth table
+ *                                   4 four u16 pins, unused ones 0   12 eight bytes of flip field
+ *     output word, 2 bytes          u16 source
+ *     trailer, the last 16 bytes    0 u16 inputs   2 u16 gates   4 u16 outputs   6 u16 format
+ *                                   8 u32 bytes from the first gate record to the trailer, 20 G + 2 K
+ *                                  12 u32 bytes of the whole image
+ *
+ * With n inputs, source i below n is input i, and source n + j is gate j. Bit r of the truth table is
+ * the gate's answer where r is the sum of 2^i over the used pins i that are 1: 8 is AND of two pins, 1
+ * an inverter. bench_set_flip explains flip kind and field. rust/ has a tool that makes images from
+ * text.
  *
  *
  * ANSWERS
@@ -31,6 +70,8 @@
  * refusal: BENCH_NUMBER says which one, BENCH_PLACE where. A refused call has changed nothing: no
  * word of the area, and nothing that an out-pointer points to. Of several reasons the call gives the
  * first in the order that stands with it.
+ *
+ * BENCH_REFUSED_... name the numbers.
  *
  *     no.  refused because                                                     place
  *      1   image length not 16 to 32768, or not the total in its trailer       0
@@ -59,12 +100,15 @@
  * gets 14, and gets 13 only if it is lent with fewer words than the netlist takes.
  *
  *
- * POINTERS
+ * POINTERS, STACK, THREADS
  *
  * A pointer with a length stands for that many elements, all readable (writable where the pointer is
- * not const). No pointer may be null, not even with the length 0: pass the address of any object of
- * the type. Pointers are aligned for their type. What one pointer of a call can write must not
+ * not const). No pointer may be null, not even with the length 0: the address of any object of the
+ * type will do. Pointers are aligned for their type. What one pointer of a call can write must not
  * overlap what another pointer of the same call names, and no other thread touches it meanwhile.
+ *
+ * bench_open takes up to 46 KB of stack, bench_average 38 KB, the other calls less. No call allocates
+ * memory, and calls on different areas may run at the same time.
  */
 #ifndef BENCH_H
 #define BENCH_H
@@ -76,12 +120,40 @@
 extern "C" {
 #endif
 
+/* Raised with every change to a function, a number or a layout in this file. */
+#define BENCH_VERSION 1
+
 #define BENCH_ONE UINT32_C(1073741824)
+#define BENCH_INPUTS_MAX 12
+#define BENCH_GATES_MAX 1024
+#define BENCH_OUTPUTS_MAX 64
+#define BENCH_PINS_MAX 4
+#define BENCH_IMAGE_MAX 32768
+#define BENCH_WEIGHT_MAX UINT32_C(1048575)
 #define BENCH_WORDS(gates, outputs) (8 + 8 * (size_t)(gates) + (size_t)(outputs))
-#define BENCH_WORDS_MAX BENCH_WORDS(1024, 64)
+#define BENCH_WORDS_MAX BENCH_WORDS(BENCH_GATES_MAX, BENCH_OUTPUTS_MAX)
+
+#define BENCH_FLIP_NEVER 0
+#define BENCH_FLIP_CHANCE 1
+#define BENCH_FLIP_STRIKE 2
 
 #define BENCH_NUMBER(answer) ((uint32_t)((uint64_t)(answer) >> 32))
 #define BENCH_PLACE(answer) ((uint32_t)((uint64_t)(answer) & UINT32_C(0xffffffff)))
+
+#define BENCH_REFUSED_LENGTH 1
+#define BENCH_REFUSED_FORMAT 2
+#define BENCH_REFUSED_COUNTS 3
+#define BENCH_REFUSED_BACK 4
+#define BENCH_REFUSED_GATE 5
+#define BENCH_REFUSED_PIN 6
+#define BENCH_REFUSED_FLIP 7
+#define BENCH_REFUSED_OUTPUT 8
+#define BENCH_REFUSED_SHARED 9
+#define BENCH_REFUSED_NAMED 10
+#define BENCH_REFUSED_NEW_FLIP 11
+#define BENCH_REFUSED_WEIGHTS 12
+#define BENCH_REFUSED_SHORT_AREA 13
+#define BENCH_REFUSED_AREA 14
 
 /*
  * Opens a netlist image in the area, with pattern 0 and every figure worked out. What the area held
@@ -109,10 +181,10 @@ uint64_t bench_toggle_input(uint32_t *area, size_t area_len, uint32_t input);
  * Sets the flip of one gate. `field` holds the eight bytes that stand in an image's gate record, as a
  * little-endian number: byte i is field >> 8 * i & 255. By `kind`:
  *
- *     0   it never flips; field is 0
- *     1   field is the bits of a double: the chance
- *     2   the low half is the bits of a float, the strike chance, the high half those of another, the
- *         latching window; the chance is their exact product
+ *     BENCH_FLIP_NEVER    field is 0
+ *     BENCH_FLIP_CHANCE   field is the bits of a double: the chance
+ *     BENCH_FLIP_STRIKE   the low half is the bits of a float, the strike chance, the high half those of
+ *                         another, the latching window; the chance is their exact product
  *
  * Each of these floats is finite and from 0 to 1; minus zero is taken for zero. The chance is rounded
  * to units once, to the nearest, a half upwards.

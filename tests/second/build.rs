@@ -12,8 +12,8 @@ fn main() {
         return;
     }
     if !library.exists() {
-        // The image maker and the model's sheet need no library, so this stops nothing by itself;
-        // the tests then fail to link.
+        // The model's sheet needs no library, so this stops nothing by itself; the tests then fail to
+        // link.
         println!(
             "cargo:warning={} is missing: run `rt staticlib bench_c` at the repository root",
             library.display()

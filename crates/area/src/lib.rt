@@ -98,6 +98,14 @@ pub fn table(area: &[u32], gate: usize) -> u32
     area[HEAD_WORDS + GATE_WORDS * gate + TABLE]
 }
 
+// Where a gate's words begin.
+pub fn gate_index(gate: usize) -> usize
+    requires { ⌜ gate < layout.mostGates ⌝ }
+    ensures { λ r. ⌜ r ≡ layout.gateIndex gate ⌝ }
+{
+    HEAD_WORDS + GATE_WORDS * gate
+}
+
 // Where a gate's pins begin.
 pub fn pins_index(gate: usize) -> usize
     requires { ⌜ gate < layout.mostGates ⌝ }

@@ -19,7 +19,7 @@ use Rattle.area.specs.Figures.{productFrom}
 use Rattle.work.proofs.Sound.{output-below}
 use Rattle.work.proofs.Loops.{part-at}
 use Rattle.rules.proofs.Facts.{both}
-use Rattle.calls.specs.Calls.{reliabilityAt}
+use Rattle.calls.specs.Calls.{reliabilityFor}
 use Rattle.area.specs.Layout.{largestWeight}
 use Rattle.average.specs.Walk.{Fitting, weightedTo}
 use Rattle.lanes.specs.Lanes.{laneWord}

@@ -26,7 +26,7 @@ use Rattle.area.specs.Net.{netOf}
 use Rattle.area.proofs.Net.{gate-at, gate-count, sound-pins}
 use Rattle.fresh.proofs.Sources.{map-same, source-input, source-gate, source-cases, product-same}
 use Rattle.fresh.proofs.WorkAll.{work-all-fresh}
-use Rattle.calls.specs.Calls.{reliabilityAt}
+use Rattle.calls.specs.Calls.{reliabilityFor}
 use Rattle.lanes.specs.Lanes.{laneWord, InputLanes, RowStored, Readable, laneGate}
 use Rattle.average.specs.Blocks.{wordAt, lanePattern, ReadersOf, Block, OutputLanes}
 

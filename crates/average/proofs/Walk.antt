@@ -20,7 +20,7 @@ use Rattle.lists.specs.Lists.{allZero}
 use Rattle.area.specs.Rules.{Sound}
 use Rattle.work.proofs.Sound.{sound-store-pattern, sound-work-all}
 use Rattle.lists.proofs.Every.{zero-part, holds-every}
-use Rattle.calls.specs.Calls.{reliabilityAt, averageOf}
+use Rattle.calls.specs.Calls.{reliabilityFor, averageOf}
 use Rattle.area.specs.Layout.{largestWeight}
 use Rattle.average.specs.Walk.{Fitting, weightedTo}
 

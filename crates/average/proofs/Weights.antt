@@ -14,7 +14,7 @@ use Rattle.lists.specs.Lists.{allZero}
 use Rattle.refusal.specs.declared.Judgement.{Judgement}
 use Rattle.refusal.specs.declared.Judgement.the-variants.{Fine, Refused}
 use Rattle.refusal.specs.Judgement.{refuseUnless, otherwise, lowest}
-use Rattle.calls.specs.Judged.{weightsJudgement}
+use Rattle.calls.specs.Judgements.{weightsJudgement}
 use Rattle.area.specs.Layout.{largestWeight}
 use Rattle.average.specs.Weights.{FirstHeavy}
 use Rattle.average.specs.Walk.{Fitting}

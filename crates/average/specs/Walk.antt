@@ -4,7 +4,7 @@ use mathlib.Core.List.{List}
 use mathlib.Core.Path.{_≡_}
 use lib.ListN.{length, getD}
 use Rattle.lists.specs.Lists.{sumBelow}
-use Rattle.calls.specs.Calls.{reliabilityAt}
+use Rattle.calls.specs.Calls.{reliabilityFor}
 use Rattle.area.specs.Layout.{largestWeight}
 
 -- one weight for each pattern of n inputs, none too large

@@ -11,7 +11,7 @@ ghost use Rattle.area.specs.Rules.{Sound};
 ghost use Rattle.area.specs.Figures.{productFrom};
 ghost use Rattle.work.specs.Work.{workAll};
 ghost use Rattle.refusal.specs.declared.Judgement.the-variants.{Fine};
-ghost use Rattle.calls.specs.Judged.{weightsJudgement};
+ghost use Rattle.calls.specs.Judgements.{weightsJudgement};
 ghost use Rattle.calls.specs.Calls.{averageOf};
 ghost use Rattle.average.specs.Weights.{weightsAnswer, FirstHeavy};
 ghost use Rattle.average.specs.Walk.{Fitting, weightedTo};

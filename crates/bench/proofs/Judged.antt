@@ -14,7 +14,7 @@ use Rattle.refusal.specs.declared.Judgement.{Judgement}
 use Rattle.refusal.specs.declared.Judgement.the-variants.{Fine, Refused}
 use Rattle.refusal.specs.Judgement.{refuseUnless, otherwise}
 use Rattle.area.specs.Rules.{areaJudgement}
-use Rattle.calls.specs.Judged.{named, flipJudgement}
+use Rattle.calls.specs.Judgements.{named, flipJudgement}
 
 -- what is judged of an area alone
 pub sound-fine : (ws : List ℕ) → Sound ws → areaJudgement ws ≡ Fine

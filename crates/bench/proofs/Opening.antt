@@ -18,7 +18,8 @@ use Rattle.image.specs.Image.{imageGates, imageOutputs}
 use Rattle.image.specs.Refusals.{imageRefusal}
 use Rattle.image.specs.Loading.{imageWords}
 use Rattle.image.proofs.Middle.{length-words}
-use Rattle.calls.specs.Judged.{sharedJudgement, openJudgement}
+use Rattle.live.specs.Shared.{sharedJudgement}
+use Rattle.calls.specs.Judgements.{openJudgement}
 use Rattle.calls.specs.Calls.{openWords, openLive}
 use Rattle.calls.proofs.Loaded.{loaded-gates, loaded-outputs, loaded-net}
 use Rattle.bench.specs.Loaded.{loadedJudgement, loadedWords}

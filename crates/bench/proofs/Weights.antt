@@ -9,7 +9,7 @@ use mathlib.Core.List.{List}
 use Rattle.refusal.specs.declared.Judgement.{Judgement}
 use Rattle.refusal.specs.declared.Judgement.the-variants.{Fine, Refused}
 use Rattle.refusal.specs.Judgement.{refuseUnless, otherwise, lowest}
-use Rattle.calls.specs.Judged.{weightsJudgement}
+use Rattle.calls.specs.Judgements.{weightsJudgement}
 use Rattle.average.specs.Weights.{weightsAnswer}
 use Rattle.average.specs.declared.WeightsJudged.the-variants.{Fine, Refused}
 

@@ -7,7 +7,7 @@ ghost use Rattle.refusal.specs.Judgement.{unlessRefused};
 ghost use Rattle.netlist.specs.Live.{liveGates};
 ghost use Rattle.area.specs.Net.{netOf};
 ghost use Rattle.area.specs.Layout.{gates, outputs, needed, pattern, reliabilityWord, figure};
-ghost use Rattle.area.specs.Rules.{NetSound, Sound};
+ghost use Rattle.area.specs.Rules.{NetSound, Workable};
 ghost use Rattle.calls.specs.Judgements as judged;
 ghost use Rattle.calls.specs.Judgements.{open-image, toggle-input, set-flip, read-netlist, read-gate, take-average, judgement};
 ghost use Rattle.calls.specs.Calls.{openLive, averageOf, left};
@@ -66,9 +66,10 @@ fn copy_words(area: &mut [u32], words: &[u32], count: usize)
 // Refusal 13 of a loaded netlist that has passed 9; if it does not apply its words go into the area, and every figure is worked out.
 fn open_fitting(area: &mut [u32], words: &[u32], live: u32) -> Opened
     requires { ⌜ NetSound (now words) ⌝ }
-    requires { ⌜ ((rest : List ℕ) → Sound (take (needed (gates (now words)) (outputs (now words))) (now words) ++ rest)) ⌝ }
+    requires { ⌜ ((rest : List ℕ) → Workable (take (needed (gates (now words)) (outputs (now words))) (now words) ++ rest)) ⌝ }
     ensures { λ r. ⌜ r ≡ opened (roomOf (now (words .entry)) (length (now (area .entry)))) live ⌝ }
-    ensures { λ _. ⌜ now (area .exit) ≡ unlessRefused (roomOf (now (words .entry)) (length (now (area .entry)))) (loadedWords (now (words .entry)) (now (area .entry))) (now (area .entry)) ⌝ }
+    ensures { λ _. ⌜ now (area .exit) ≡ unlessRefused (roomOf (now (words .entry)) (length (now (area .entry))))
+        (loadedWords (now (words .entry)) (now (area .entry))) (now (area .entry)) ⌝ }
 {
     let needed = area::needed(area::gates(words), area::outputs(words));
     if area.len() < needed {
@@ -82,9 +83,10 @@ fn open_fitting(area: &mut [u32], words: &[u32], live: u32) -> Opened
 // Refusals 9 and 13 of a loaded image, and the work.
 fn open_loaded(area: &mut [u32], words: &[u32]) -> Opened
     requires { ⌜ NetSound (now words) ⌝ }
-    requires { ⌜ ((rest : List ℕ) → Sound (take (needed (gates (now words)) (outputs (now words))) (now words) ++ rest)) ⌝ }
+    requires { ⌜ ((rest : List ℕ) → Workable (take (needed (gates (now words)) (outputs (now words))) (now words) ++ rest)) ⌝ }
     ensures { λ r. ⌜ r ≡ opened (loadedJudgement (now (words .entry)) (length (now (area .entry)))) (liveGates (netOf (now (words .entry)) [] [])) ⌝ }
-    ensures { λ _. ⌜ now (area .exit) ≡ unlessRefused (loadedJudgement (now (words .entry)) (length (now (area .entry)))) (loadedWords (now (words .entry)) (now (area .entry))) (now (area .entry)) ⌝ }
+    ensures { λ _. ⌜ now (area .exit) ≡ unlessRefused (loadedJudgement (now (words .entry)) (length (now (area .entry))))
+        (loadedWords (now (words .entry)) (now (area .entry))) (now (area .entry)) ⌝ }
 {
     let inputs = area::inputs(words);
     let gates = area::gates(words);
@@ -204,7 +206,8 @@ pub fn read_netlist(area: &[u32]) -> NetlistRead
 
 // Reads one gate's right value and failure. It writes nothing.
 pub fn read_gate(area: &[u32], gate: u32) -> GateRead
-    ensures { λ r. ⌜ r ≡ gateRead (judgement (now (area .entry)) (read-gate gate)) (figure (now (area .entry)) gate % 2) (figure (now (area .entry)) gate / 2) ⌝ }
+    ensures { λ r. ⌜ r ≡ gateRead (judgement (now (area .entry)) (read-gate gate)) (figure (now (area .entry)) gate % 2)
+        (figure (now (area .entry)) gate / 2) ⌝ }
 {
     match judge_gate(area, gate) {
         Judgement::Fine => {
@@ -220,7 +223,8 @@ pub fn read_gate(area: &[u32], gate: u32) -> GateRead
 
 // The weighted average of the reliability over all patterns, weight q for pattern q. It leaves the figures worked out afresh.
 pub fn average(area: &mut [u32], weights: &[u32]) -> Averaged
-    ensures { λ r. ⌜ r ≡ averaged (judgement (now (area .entry)) (take-average (now (weights .entry)))) (averageOf (now (area .entry)) (now (weights .entry))) ⌝ }
+    ensures { λ r. ⌜ r ≡ averaged (judgement (now (area .entry)) (take-average (now (weights .entry))))
+        (averageOf (now (area .entry)) (now (weights .entry))) ⌝ }
     ensures { λ _. ⌜ now (area .exit) ≡ left (now (area .entry)) (take-average (now (weights .entry))) ⌝ }
 {
     match judge_average(area, weights) {

@@ -24,7 +24,8 @@ fn refused(number: u8, place: u32) -> u64
 #[no_mangle]
 pub extern "C" fn bench_open(area: &mut [u32], image: &[u8], live: &mut u32) -> u64
     ensures { λ r. ⌜ r ≡ code (judgement (now (area .entry)) (open-image (now (image .entry)))) ⌝ }
-    ensures { λ _. ⌜ now (live .exit) ≡ unlessRefused (judgement (now (area .entry)) (open-image (now (image .entry)))) (openLive (now (image .entry))) (now (live .entry)) ⌝ }
+    ensures { λ _. ⌜ now (live .exit) ≡ unlessRefused (judgement (now (area .entry)) (open-image (now (image .entry))))
+        (openLive (now (image .entry))) (now (live .entry)) ⌝ }
     ensures { λ _. ⌜ now (area .exit) ≡ left (now (area .entry)) (open-image (now (image .entry))) ⌝ }
 {
     let answer = bench::open(area, image);
@@ -87,9 +88,12 @@ pub extern "C" fn bench_read_netlist(
     reliability: &mut f64,
 ) -> u64
     ensures { λ r. ⌜ r ≡ code (judgement (now (area .entry)) read-netlist) ⌝ }
-    ensures { λ _. ⌜ now (pattern .exit) ≡ unlessRefused (judgement (now (area .entry)) read-netlist) (patternWord (now (area .entry))) (now (pattern .entry)) ⌝ }
-    ensures { λ _. ⌜ now (units .exit) ≡ unlessRefused (judgement (now (area .entry)) read-netlist) (reliabilityWord (now (area .entry))) (now (units .entry)) ⌝ }
-    ensures { λ _. ⌜ FloatBy (judgement (now (area .entry)) read-netlist) (reliabilityWord (now (area .entry))) (now (reliability .entry)) (now (reliability .exit)) ⌝ }
+    ensures { λ _. ⌜ now (pattern .exit) ≡ unlessRefused (judgement (now (area .entry)) read-netlist) (patternWord (now (area .entry)))
+        (now (pattern .entry)) ⌝ }
+    ensures { λ _. ⌜ now (units .exit) ≡ unlessRefused (judgement (now (area .entry)) read-netlist) (reliabilityWord (now (area .entry)))
+        (now (units .entry)) ⌝ }
+    ensures { λ _. ⌜ FloatBy (judgement (now (area .entry)) read-netlist) (reliabilityWord (now (area .entry))) (now (reliability .entry))
+        (now (reliability .exit)) ⌝ }
 {
     let answer = bench::read_netlist(area);
     match answer {
@@ -116,8 +120,10 @@ pub extern "C" fn bench_read_gate(
     failure: &mut u32,
 ) -> u64
     ensures { λ r. ⌜ r ≡ code (judgement (now (area .entry)) (read-gate gate)) ⌝ }
-    ensures { λ _. ⌜ now (right .exit) ≡ unlessRefused (judgement (now (area .entry)) (read-gate gate)) (figure (now (area .entry)) gate % 2) (now (right .entry)) ⌝ }
-    ensures { λ _. ⌜ now (failure .exit) ≡ unlessRefused (judgement (now (area .entry)) (read-gate gate)) (figure (now (area .entry)) gate / 2) (now (failure .entry)) ⌝ }
+    ensures { λ _. ⌜ now (right .exit) ≡ unlessRefused (judgement (now (area .entry)) (read-gate gate)) (figure (now (area .entry)) gate % 2)
+        (now (right .entry)) ⌝ }
+    ensures { λ _. ⌜ now (failure .exit) ≡ unlessRefused (judgement (now (area .entry)) (read-gate gate)) (figure (now (area .entry)) gate / 2)
+        (now (failure .entry)) ⌝ }
 {
     let answer = bench::read_gate(area, gate);
     match answer {
@@ -137,7 +143,8 @@ pub extern "C" fn bench_read_gate(
 #[no_mangle]
 pub extern "C" fn bench_average(area: &mut [u32], weights: &[u32], units: &mut u32) -> u64
     ensures { λ r. ⌜ r ≡ code (judgement (now (area .entry)) (take-average (now (weights .entry)))) ⌝ }
-    ensures { λ _. ⌜ now (units .exit) ≡ unlessRefused (judgement (now (area .entry)) (take-average (now (weights .entry)))) (averageOf (now (area .entry)) (now (weights .entry))) (now (units .entry)) ⌝ }
+    ensures { λ _. ⌜ now (units .exit) ≡ unlessRefused (judgement (now (area .entry)) (take-average (now (weights .entry))))
+        (averageOf (now (area .entry)) (now (weights .entry))) (now (units .entry)) ⌝ }
     ensures { λ _. ⌜ now (area .exit) ≡ left (now (area .entry)) (take-average (now (weights .entry))) ⌝ }
 {
     let answer = bench::average(area, weights);

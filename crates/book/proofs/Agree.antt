@@ -21,6 +21,9 @@ use Rattle.book.specs.Book.{Book}
 use Rattle.book.specs.Statement.{WithinBound, Current}
 use Rattle.refusal.specs.declared.Judgement.the-variants.{Fine}
 use Rattle.refusal.specs.Judgement.{refuseUnless}
+use Rattle.fresh.specs.Statements.{FiguresHeld}
+use Rattle.fresh.proofs.Statements.{fresh-holds-netlist}
+use Rattle.area.proofs.Words.{output-count}
 
 -- the area has `size` words; beside the kinds and chances, which they do not hold, they have the book's netlist and pattern, and its figures are worked out
 pub record Agree (size : ℕ) (ws : List ℕ) (b : Book) : Type 0 where
@@ -68,13 +71,13 @@ module _ (size : ℕ) (ws : List ℕ) (b : Book) (agree : Agree size ws b) where
   figures-held =
       subst (λ (q : ℕ). FiguresHeld chanceScale (b .net) q ws) (agree .same-pattern)
       (subst (λ (held : Netlist). FiguresHeld chanceScale held (pattern ws) ws) (agree .held)
-      (fresh-holds chanceScale ws (agree .kinds) (agree .chances) (agree .sound .workable) (agree .fresh) (agree .converted)))
+      (fresh-holds-netlist chanceScale ws (agree .kinds) (agree .chances) (agree .sound) (agree .fresh) (agree .converted)))
 
   pub current : Current ws b
   current =
       record {
         within =
-            subst (λ (units : ℕ). WithinBound units b) (sym (figures-held .reliability-held))
+            subst (λ (units : ℕ). WithinBound units b) (sym (figures-held .product))
             (reliability-bound unitsInOne chanceScale (omega arith) chance-scale-positive (b .net) well-formed (agree .single) (b .pattern));
         figures = figures-held;
       }

@@ -21,7 +21,9 @@ use Rattle.area.specs.Net.{netOf}
 use Rattle.area.proofs.Net.{same-single-readers}
 use Rattle.fresh.proofs.Calls.{toggle-net, toggle-pattern, toggle-fresh, toggle-converted, set-net, set-pattern, set-fresh, set-converted}
 use Rattle.fresh.proofs.Unique.{fresh-fixed}
-use Rattle.calls.specs.Calls.{open-image, toggle-input, set-flip, read-netlist, read-gate, take-average, flipUnits, openWords, work}
+use Rattle.calls.specs.Judgements.{open-image, toggle-input, set-flip, read-netlist, read-gate, take-average}
+use Rattle.chance.specs.Flip.{flipUnits}
+use Rattle.calls.specs.Calls.{openWords, work}
 use Rattle.book.specs.Book.{Book, withFlip, entered, imageBook}
 use Rattle.book.proofs.Agree.{Agree}
 use Rattle.book.proofs.Shown.{Shown, Lent, shown-lent}

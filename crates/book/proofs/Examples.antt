@@ -1,24 +1,27 @@
 -- The printed sheet of document 01 as an image: it is accepted by an area of 33 words and by none of fewer, and enters that sheet's netlist in the book.
 -- Then a list of calls on it. By computation. Assumes nothing.
-use Prim.Native.Nat.{ℕ}
+use Prim.Native.Nat.{ℕ, _^_}
 use mathlib.Core.List.{List, [], _∷_}
 use mathlib.Core.Path.{_≡_, refl}
 use lib.Ieee.{ofBits}
 use lib.ListN.{replicate}
 use Rattle.chance.specs.Number.{chanceScale, wholeChance, fromZeroToOne}
 use Rattle.chance.specs.Flip.{flipOf, inRange, flipAccepted, chanceOf, flipChance}
-use Rattle.netlist.specs.Live.{liveReads, firstShared}
-use Rattle.netlist.specs.Sheets.{chanceHalf, printed}
+use Rattle.netlist.specs.Live.{liveReads, readers}
+use Rattle.netlist.specs.Netlist.{Gate}
 use Rattle.area.specs.Rules.{gateShape, usedBelow, countsInRange}
 use Rattle.refusal.specs.declared.Judgement.{Judgement}
 use Rattle.refusal.specs.declared.Judgement.the-variants.{Fine, Refused}
 use Rattle.image.specs.Image.{middle}
 use Rattle.image.specs.Refusals.{lengthRight, backRight, trailerRefusal, gateRefusal, outputRefusal, middleRefusal, imageRefusal}
-use Rattle.image.specs.Loading.{recordChance, middleWords, imageWords}
-use Rattle.calls.specs.Judged.{sharedJudgement, openJudgement, weightsJudgement}
-use Rattle.calls.specs.Calls.{Call, open-image, toggle-input, set-flip, read-netlist, read-gate, take-average, openWords}
+use Rattle.image.specs.Loading.{recordChance}
+use Rattle.live.specs.Shared.{sharedJudgement}
+use Rattle.calls.specs.Judgements.{openJudgement, weightsJudgement, argumentJudgement}
+use Rattle.calls.specs.Judgements.{Call, open-image, toggle-input, set-flip, read-netlist, read-gate, take-average}
+use Rattle.calls.specs.Calls.{openWords}
 use Rattle.calls.specs.Sheets.{printedImage}
-use Rattle.book.specs.Book.{Book, imageNet, imageBook, withFlip, bookJudgement, bookStep}
+use Rattle.image.specs.Netlist.{imageNet}
+use Rattle.book.specs.Book.{Book, imageBook, withFlip, heldJudgement, bookJudgement, bookStep}
 use Rattle.book.specs.Statement.{Kept}
 use Rattle.book.proofs.List.{demand3}
 
@@ -28,20 +31,30 @@ unfolding
     flipAccepted inRange fromZeroToOne ofBits
 not-refused = refl
 
-pub book-net : imageNet printedImage ≡ printed
-unfolding imageNet middle recordChance flipChance flipOf chanceOf wholeChance chanceScale ofBits chanceHalf
+-- a buffer at chance 0.5, which is 2^1073 of the 2^1074 parts
+abbrev halfBuffer : ℕ → Gate
+halfBuffer source = record { pins = source ∷ []; table = 2; kind = 1; chance = 2 ^ 1073 }
+
+pub book-net : imageNet printedImage
+    ≡ record {
+      inputs = 2;
+      gates = halfBuffer 0 ∷ halfBuffer 1 ∷ record { pins = 2 ∷ 3 ∷ []; table = 8; kind = 0; chance = 0 } ∷ [];
+      outputs = 4 ∷ [];
+    }
+unfolding imageNet middle recordChance flipChance flipOf chanceOf wholeChance chanceScale ofBits
 book-net = refl
 
 -- 8 + 8 × 3 + 1 words are enough, one fewer is 13
 pub accepted : openJudgement printedImage 33 ≡ Fine
-unfolding openJudgement sharedJudgement firstShared liveReads imageWords middleWords middle
+unfolding openJudgement sharedJudgement readers liveReads imageNet middle
 accepted = rw not-refused refl
 
 pub too-short : openJudgement printedImage 32 ≡ Refused 13 0
-unfolding openJudgement sharedJudgement firstShared liveReads imageWords middleWords middle
+unfolding openJudgement sharedJudgement readers liveReads imageNet middle
 too-short = rw not-refused refl
 
--- what the book says of a list of calls: input 1 toggled; no input 2; gate 0 to flip never; not-a-number; no gate 3; three weights; weights 0; an image of no bytes
+-- what the book says of a list of calls: input 1 toggled; no input 2; gate 0 to flip never; not-a-number; no gate 3; three weights; weights 0;
+-- an image of no bytes
 abbrev calls : List Call
 calls =
     toggle-input 1
@@ -73,9 +86,15 @@ pub said : judgements (imageBook printedImage) 33 calls
     ∷ Fine
     ∷ []
 unfolding
-    imageNet middle withFlip flipAccepted inRange fromZeroToOne ofBits weightsJudgement openJudgement imageRefusal trailerRefusal lengthRight
+    heldJudgement argumentJudgement imageNet middle withFlip flipAccepted inRange fromZeroToOne ofBits weightsJudgement openJudgement imageRefusal
+    trailerRefusal lengthRight
 said = refl
 
 -- and demand 3 speaks of it
-pub kept : Kept (openWords printedImage (replicate 33 0)) (imageBook printedImage) calls
+pub kept : Kept 33 (openWords printedImage (replicate 33 0)) (imageBook printedImage) calls
 kept = demand3 (replicate 33 0) printedImage calls accepted
+
+-- in an area that is too short the book says 13 first, whatever is named
+pub short-first : bookJudgement (imageBook printedImage) 32 (toggle-input 2) ≡ Refused 13 0
+unfolding heldJudgement imageNet middle
+short-first = refl

@@ -1,98 +1,49 @@
 -- An accepted image, opened, leaves words that agree with its book. Assumes nothing.
-use Prim.Native.Nat.{ℕ, zero, suc, _+_, _*_, _≤_, _<_}
-use mathlib.Core.List.{List, [], _∷_, _++_, append-nil}
-use mathlib.Core.Path.{_≡_, refl, sym, ap, ap₂, subst, _∙_}
+use Prim.Native.Nat.{ℕ, _≤_}
+use mathlib.Core.List.{List, _++_}
+use mathlib.Core.Path.{_≡_, _∙_}
 use native.Mathlib.Omega.{arith}
-use borrow.Author.Tests.{eqb-true}
-use lib.ListN.{length, drop}
-use Rattle.netlist.specs.Live.{liveGates, firstShared, SingleReaders}
-use Rattle.netlist.proofs.Shared.{none-single}
-use Rattle.area.specs.Layout.{inputs, gates, outputs, pattern, gateIndex, pinCount, table, pins, flipIndex, needed}
-use Rattle.work.specs.Work.{workAll}
-use Rattle.work.proofs.Frame.{same-gates, same-work-all, work-all-other}
-use Rattle.work.proofs.Sound.{sound-work-all}
-use Rattle.area.specs.Net.{gateOf, gatesFrom, netOf}
-use Rattle.area.proofs.Net.{gate-count, same-live-gates, same-single-readers}
+use lib.ListN.{length, drop, length-append, length-drop}
 use Rattle.refusal.specs.declared.Judgement.the-variants.{Fine}
-use Rattle.image.specs.Image.{imageInputs, imageGates, imageOutputs, middle, recordCount, recordTable, recordPins}
-use Rattle.image.specs.Refusals.{imageRefusal}
-use Rattle.image.specs.Loading.{middleWords, imageWords, imageKinds, imageChances}
-use Rattle.refusal.proofs.Laws.{unless-fine, otherwise-fine}
-use Rattle.image.proofs.Sound.{word-at, pins-at, gate-stands, outputs-stand, loaded-sound, length-kinds, length-chances, kind-at, chance-at, chances-fit, flips-at}
-use Rattle.calls.specs.Judged.{sharedJudgement, openJudgement}
-use Rattle.calls.specs.Calls.{openWords, openLive}
+use Rattle.area.specs.Layout.{gates, needed}
+use Rattle.live.proofs.Shared.{shared-single}
+use Rattle.work.specs.Work.{workAll}
+use Rattle.work.proofs.Frame.{same-gates, same-work-all, work-all-pattern, work-all-flip}
+use Rattle.work.proofs.Sound.{sound-work-all}
 use Rattle.fresh.proofs.WorkAll.{work-all-fresh}
 use Rattle.fresh.proofs.Calls.{frame-net}
-use Rattle.book.specs.Book.{recordGate, recordGates, imageNet, imageBook}
+use Rattle.image.specs.Image.{imageGates, imageOutputs}
+use Rattle.image.specs.Loading.{imageWords, imageKinds, imageChances}
+use Rattle.image.specs.Netlist.{imageNet}
+use Rattle.image.proofs.Middle.{length-words}
+use Rattle.image.proofs.Words.{head-gates, head-pattern}
+use Rattle.image.proofs.Sound.{loaded-sound, length-kinds, length-chances, chances-fit, flips-at}
+use Rattle.image.proofs.Netlist.{image-net}
+use Rattle.calls.specs.Judgements.{openJudgement}
+use Rattle.calls.specs.Calls.{openWords}
+use Rattle.calls.proofs.Judgements.{open-fine}
+use Rattle.book.specs.Book.{imageBook}
 use Rattle.book.proofs.Agree.{Agree}
 
-module _ (bs rest : List ℕ) where
-  gate-held : (j : ℕ) → j < imageGates bs → gateOf (imageWords bs ++ rest) (imageKinds bs) (imageChances bs) j ≡ recordGate (middle bs) j
-  gate-held j l =
-      let ws = imageWords bs ++ rest in
-      let m = middle bs in
-      let d = gate-stands bs rest j l in
-      let n = imageInputs bs in
-      let count : pinCount ws j ≡ recordCount m j = word-at ws m (d .0) n j (d .1) (gateIndex j) 0 (omega arith) in
-      let bits : table ws j ≡ recordTable m j = word-at ws m (d .0) n j (d .1) (gateIndex j + 1) 1 refl in
-      let four : pins ws j ≡ recordPins m j = pins-at ws m (d .0) n j (d .1) in
-      rw (count, bits, four, kind-at bs j l, chance-at bs j l)
+-- the image's words before what stood past them, in an area with room for them
+pub opened-length : (bs ws : List ℕ) → needed (imageGates bs) (imageOutputs bs) ≤ length ws
+    → length (imageWords bs ++ drop (needed (imageGates bs) (imageOutputs bs)) ws) ≡ length ws
+opened-length bs ws room =
+    let rest = drop (needed (imageGates bs) (imageOutputs bs)) ws in
+    omega (arith, length-append (imageWords bs) rest, length-words bs, length-drop (needed (imageGates bs) (imageOutputs bs)) ws)
 
-  gates-held : (j k : ℕ) → j + k ≤ imageGates bs → gatesFrom (imageWords bs ++ rest) (imageKinds bs) (imageChances bs) j k ≡ recordGates (middle bs) j k
-  gates-held j zero l = refl
-  gates-held j (suc k) l = ap₂ _∷_ (gate-held j (omega arith)) (gates-held (suc j) k (omega arith))
-
-  -- the counts and the pattern stand in the head
-  pub head-inputs : inputs (imageWords bs ++ rest) ≡ imageInputs bs
-  unfolding imageWords middleWords
-  head-inputs = refl
-
-  pub head-gates : gates (imageWords bs ++ rest) ≡ imageGates bs
-  unfolding imageWords middleWords
-  head-gates = refl
-
-  pub head-outputs : outputs (imageWords bs ++ rest) ≡ imageOutputs bs
-  unfolding imageWords middleWords
-  head-outputs = refl
-
-  pub head-pattern : pattern (imageWords bs ++ rest) ≡ 0
-  unfolding imageWords middleWords
-  head-pattern = refl
-
-  -- the words of an image hold its netlist, whatever follows them
-  pub image-net : netOf (imageWords bs ++ rest) (imageKinds bs) (imageChances bs) ≡ imageNet bs
-  unfolding imageNet
-  image-net = rw (outputs-stand bs rest, head-inputs, head-gates, gates-held 0 (imageGates bs) (omega arith))
-
-plain-net : (bs : List ℕ) → netOf (imageWords bs) (imageKinds bs) (imageChances bs) ≡ imageNet bs
-plain-net bs = subst (λ (ws : List ℕ). netOf ws (imageKinds bs) (imageChances bs) ≡ imageNet bs) (append-nil (imageWords bs)) (image-net bs [])
-
--- the number that opening answers is L of the book
-pub open-live : (bs : List ℕ) → openLive bs ≡ liveGates (imageNet bs)
-unfolding openLive
-open-live bs = same-live-gates (imageWords bs) [] [] (imageKinds bs) (imageChances bs) ∙ ap liveGates (plain-net bs)
-
--- refusal 9 does not apply to it
-single-readers : (bs : List ℕ) → sharedJudgement (imageWords bs) ≡ Fine → SingleReaders (imageNet bs)
-unfolding sharedJudgement
-single-readers bs e =
-    let ws = imageWords bs in
-    let none : firstShared (netOf ws [] []) ≡ gates ws = eqb-true _ _ (unless-fine _ 9 _ e) in
-    subst SingleReaders (plain-net bs)
-    (same-single-readers ws [] [] (imageKinds bs) (imageChances bs) (none-single (netOf ws [] []) (none ∙ sym (gate-count ws [] []))))
-
-pub opened : (bs ws : List ℕ) → openJudgement bs (length ws) ≡ Fine → Agree (openWords bs ws) (imageBook bs)
-unfolding openJudgement openWords
+pub opened : (bs ws : List ℕ) → openJudgement bs (length ws) ≡ Fine → Agree (length ws) (openWords bs ws) (imageBook bs)
+unfolding openWords
 opened bs ws e =
+    let accepted = open-fine bs (length ws) e in
     let rest = drop (needed (imageGates bs) (imageOutputs bs)) ws in
     let before = imageWords bs ++ rest in
     let after = workAll before in
-    let image = otherwise-fine (imageRefusal bs) _ e in
-    let shared = otherwise-fine (sharedJudgement (imageWords bs)) _ (image .1) in
-    let sound = loaded-sound bs rest (image .0) in
+    let sound = loaded-sound bs rest (accepted .image) in
     let same = same-work-all before in
     let count : gates after ≡ imageGates bs = same-gates before after same ∙ head-gates bs rest in
     record {
+      long = same .size ∙ opened-length bs ws (accepted .room);
       kinds = imageKinds bs;
       chances = imageChances bs;
       kind-each = omega (arith, length-kinds bs);
@@ -100,13 +51,8 @@ opened bs ws e =
       sound = sound-work-all before sound;
       fresh = work-all-fresh before sound;
       held = frame-net before after (imageKinds bs) (imageChances bs) same ∙ image-net bs rest;
-      converted =
-          record {
-            flips =
-                λ j l.
-                work-all-other before (flipIndex j) (λ q. omega arith) (λ i from to q. omega arith) ∙ flips-at bs rest j (omega arith);
-          };
-      chances-fit = λ j l. chances-fit bs (image .0) j (omega arith);
-      same-pattern = work-all-other before 3 (λ q. omega arith) (λ i from to q. omega arith) ∙ head-pattern bs rest;
-      single = single-readers bs (shared .0);
+      converted = record { flips = λ j l. work-all-flip before j ∙ flips-at bs rest j (omega arith) };
+      chances-fit = λ j l. chances-fit bs (accepted .image) j (omega arith);
+      same-pattern = work-all-pattern before ∙ head-pattern bs rest;
+      single = shared-single (imageNet bs) (accepted .shared);
     }

@@ -1,44 +1,38 @@
 -- On any area, no call changes the length, or a word past those that it needs. Assumes nothing.
-use Prim.Native.Nat.{ℕ, _+_, _-_, _≤_}
+use Prim.Native.Nat.{ℕ, _+_, _-_}
 use mathlib.Core.List.{List, _++_}
 use mathlib.Core.Path.{_≡_, refl, sym, ap, _∙_}
 use native.Mathlib.Omega.{arith}
-use borrow.Author.Tests.{leb-true}
-use lib.Dec.{leb}
-use lib.ListN.{length, getD, drop, length-append, length-drop}
+use lib.ListN.{length, getD, drop}
 use lib.Seq.{getD-append-add, getD-drop}
-use Rattle.area.specs.Layout.{gates, outputs, needed}
-use Rattle.work.specs.Work.{workAll}
-use Rattle.work.proofs.Frame.{SameFrame, past-kept, same-refl, same-toggle, same-set, same-work-all}
 use Rattle.refusal.specs.declared.Judgement.{Judgement}
 use Rattle.refusal.specs.declared.Judgement.the-variants.{Fine, Refused}
-use Rattle.refusal.specs.Judgement.{otherwise}
+use Rattle.refusal.specs.Judgement.{unlessRefused}
+use Rattle.chance.specs.Flip.{flipUnits}
+use Rattle.area.specs.Layout.{inputs, gates, outputs, needed}
+use Rattle.work.specs.Work.{workAll}
+use Rattle.work.proofs.Frame.{SameFrame, past-kept, same-refl, same-toggle, same-set, same-work-all}
 use Rattle.image.specs.Image.{imageGates, imageOutputs}
-use Rattle.image.specs.Refusals.{imageRefusal}
 use Rattle.image.specs.Loading.{imageWords}
-use Rattle.refusal.proofs.Laws.{unless-fine, otherwise-fine}
 use Rattle.image.proofs.Middle.{length-words}
-use Rattle.area.specs.Rules.{areaJudgement}
-use Rattle.calls.specs.Judged.{named, flipJudgement, sharedJudgement, openJudgement, setJudgement}
-use Rattle.calls.specs.Calls.{Call, open-image, toggle-input, set-flip, read-netlist, read-gate, take-average, flipUnits, openWords, judgement, work, leftBy}
-use Rattle.book.proofs.Judged.{named-below}
-use Rattle.book.proofs.Open.{head-gates, head-outputs}
+use Rattle.image.proofs.Words.{head-gates, head-outputs}
+use Rattle.calls.specs.Judgements.{Call, open-image, toggle-input, set-flip, read-netlist, read-gate, take-average, openJudgement, judgement}
+use Rattle.calls.specs.Calls.{openWords, work}
+use Rattle.calls.proofs.Judgements.{open-fine, lent-fine, set-fine}
 use Rattle.book.specs.Statement.{neededBy, Untouched, PastUntouched}
+use Rattle.book.proofs.Open.{opened-length}
 
 frame-untouched : (ws vs : List ℕ) → SameFrame ws vs → Untouched (needed (gates ws) (outputs ws)) ws vs
 frame-untouched ws vs same = record { size = same .size; past = past-kept ws vs same }
 
 open-untouched : (bs ws : List ℕ) → openJudgement bs (length ws) ≡ Fine → Untouched (needed (imageGates bs) (imageOutputs bs)) ws (openWords bs ws)
-unfolding openJudgement openWords
+unfolding openWords
 open-untouched bs ws e =
     let need = needed (imageGates bs) (imageOutputs bs) in
     let before = imageWords bs ++ drop need ws in
     let same = same-work-all before in
-    let image = otherwise-fine (imageRefusal bs) _ e in
-    let room : need ≤ length ws
-    = leb-true need (length ws) (unless-fine (leb need (length ws)) 13 0 (otherwise-fine (sharedJudgement (imageWords bs)) _ (image .1) .1)) in
     record {
-      size = same .size ∙ omega (arith, length-append (imageWords bs) (drop need ws), length-words bs, length-drop need ws);
+      size = same .size ∙ opened-length bs ws (open-fine bs (length ws) e .room);
       past =
           λ i l.
           let k = i - need in
@@ -52,13 +46,11 @@ open-untouched bs ws e =
     }
 
 work-untouched : (ws : List ℕ) (call : Call) → judgement ws call ≡ Fine → Untouched (neededBy ws call) ws (work ws call)
-unfolding setJudgement
 work-untouched ws (open-image bs) e = open-untouched bs ws e
 work-untouched ws (toggle-input i) e = frame-untouched ws _ (same-toggle ws i)
 work-untouched ws (set-flip g kind field) e =
-    let area = otherwise-fine (areaJudgement ws) (otherwise (named g (gates ws)) (flipJudgement g kind field)) e in
-    let gate = otherwise-fine (named g (gates ws)) (flipJudgement g kind field) (area .1) in
-    frame-untouched ws _ (same-set ws g (flipUnits kind field) (named-below g (gates ws) (gate .0)))
+    let passed = set-fine (inputs ws) (gates ws) g kind field (lent-fine ws (set-flip g kind field) e .1) in
+    frame-untouched ws _ (same-set ws g (flipUnits kind field) (passed .0))
 work-untouched ws read-netlist e = frame-untouched ws ws (same-refl ws)
 work-untouched ws (read-gate g) e = frame-untouched ws ws (same-refl ws)
 work-untouched ws (take-average weights) e = frame-untouched ws _ (same-work-all ws)
@@ -66,6 +58,6 @@ work-untouched ws (take-average weights) e = frame-untouched ws _ (same-work-all
 pub past-untouched : PastUntouched
 past-untouched ws call = go (judgement ws call) refl
   where
-    go : (v : Judgement) → judgement ws call ≡ v → Untouched (neededBy ws call) ws (leftBy v (work ws call) ws)
+    go : (v : Judgement) → judgement ws call ≡ v → Untouched (neededBy ws call) ws (unlessRefused v (work ws call) ws)
     go Fine e = work-untouched ws call e
     go (Refused number place) e = record { size = refl; past = λ i l. refl }

@@ -50,21 +50,21 @@ conversions =
     ∷ record { kind = 2; field = 0 ∷ 0 ∷ 0x80 ∷ 0x37 ∷ 0 ∷ 0 ∷ 0 ∷ 0x38 ∷ []; units = 1 }
     ∷ []
 
--- ---- images: gate records, output words, the trailer; every number below 256
+-- ---- images: gate records, output words, the trailer; every number below 256, so that its second byte is 0
 
 -- a gate with at most two used pins
-abbrev pub gateBytes : ℕ → ℕ → ℕ → ℕ → ℕ → List ℕ → List ℕ
-gateBytes count table first second kind field = count ∷ kind ∷ table ∷ 0 ∷ first ∷ 0 ∷ second ∷ 0 ∷ 0 ∷ 0 ∷ 0 ∷ 0 ∷ field
+abbrev pub gateRecord : ℕ → ℕ → ℕ → ℕ → ℕ → List ℕ → List ℕ
+gateRecord count table first second kind field = count ∷ kind ∷ table ∷ 0 ∷ first ∷ 0 ∷ second ∷ 0 ∷ 0 ∷ 0 ∷ 0 ∷ 0 ∷ field
 
 abbrev pub buffer : ℕ → List ℕ → List ℕ
-buffer source field = gateBytes 1 2 source 0 1 field
+buffer source field = gateRecord 1 2 source 0 1 field
 
 abbrev pub andGate : ℕ → ℕ → ℕ → List ℕ → List ℕ
-andGate first second kind field = gateBytes 2 8 first second kind field
+andGate first second kind field = gateRecord 2 8 first second kind field
 
-abbrev pub outputBytes : List ℕ → List ℕ
-outputBytes [] = []
-outputBytes (o ∷ os) = o ∷ 0 ∷ outputBytes os
+abbrev pub twoBytes : List ℕ → List ℕ
+twoBytes [] = []
+twoBytes (o ∷ os) = o ∷ 0 ∷ twoBytes os
 
 -- n inputs, g gates, k outputs, and no heading
 abbrev pub trailer : ℕ → ℕ → ℕ → List ℕ
@@ -73,34 +73,34 @@ trailer n g k =
 
 -- the printed sheet: buffers at chance 0.5 on inputs 0 and 1, and an AND of both that never flips
 abbrev pub printedImage : List ℕ
-printedImage = buffer 0 half ++ (buffer 1 half ++ (andGate 2 3 0 never ++ (outputBytes (4 ∷ []) ++ trailer 2 3 1)))
+printedImage = buffer 0 half ++ (buffer 1 half ++ (andGate 2 3 0 never ++ (twoBytes (4 ∷ []) ++ trailer 2 3 1)))
 
 -- document 001, figure 2.1: two ANDs at 0.05, on inputs 0, 1 and on inputs 1, 2, an output each
 abbrev pub twoAndsImage : List ℕ
-twoAndsImage = andGate 0 1 1 twentieth ++ (andGate 1 2 1 twentieth ++ (outputBytes (3 ∷ 4 ∷ []) ++ trailer 3 2 2))
+twoAndsImage = andGate 0 1 1 twentieth ++ (andGate 1 2 1 twentieth ++ (twoBytes (3 ∷ 4 ∷ []) ++ trailer 3 2 2))
 
 -- an AND at 0.05 into an inverter at 0.05
 abbrev pub andInverterImage : List ℕ
-andInverterImage = andGate 0 1 1 twentieth ++ (gateBytes 1 1 2 0 1 twentieth ++ (outputBytes (3 ∷ []) ++ trailer 2 2 1))
+andInverterImage = andGate 0 1 1 twentieth ++ (gateRecord 1 1 2 0 1 twentieth ++ (twoBytes (3 ∷ []) ++ trailer 2 2 1))
 
 -- two buffers in a row that always flip
 abbrev pub sureBuffersImage : List ℕ
-sureBuffersImage = buffer 0 one ++ (buffer 1 one ++ (outputBytes (2 ∷ []) ++ trailer 1 2 1))
+sureBuffersImage = buffer 0 one ++ (buffer 1 one ++ (twoBytes (2 ∷ []) ++ trailer 1 2 1))
 
 -- no gates, the output reads an input
 abbrev pub noGatesImage : List ℕ
-noGatesImage = outputBytes (0 ∷ []) ++ trailer 1 0 1
+noGatesImage = twoBytes (0 ∷ []) ++ trailer 1 0 1
 
 -- both pins of an AND on one gate; both on one input
 abbrev pub gateTwiceImage : List ℕ
-gateTwiceImage = buffer 0 half ++ (andGate 1 1 0 never ++ (outputBytes (2 ∷ []) ++ trailer 1 2 1))
+gateTwiceImage = buffer 0 half ++ (andGate 1 1 0 never ++ (twoBytes (2 ∷ []) ++ trailer 1 2 1))
 
 abbrev pub inputTwiceImage : List ℕ
-inputTwiceImage = andGate 0 0 0 never ++ (outputBytes (1 ∷ []) ++ trailer 1 1 1)
+inputTwiceImage = andGate 0 0 0 never ++ (twoBytes (1 ∷ []) ++ trailer 1 1 1)
 
 -- a live gate that one live and one dead gate read
 abbrev pub deadReaderImage : List ℕ
-deadReaderImage = buffer 0 half ++ (buffer 1 half ++ (buffer 1 half ++ (outputBytes (2 ∷ []) ++ trailer 1 3 1)))
+deadReaderImage = buffer 0 half ++ (buffer 1 half ++ (buffer 1 half ++ (twoBytes (2 ∷ []) ++ trailer 1 3 1)))
 
 -- ---- openings: how an image is judged and its live gates; and, unless it is refused, the reliability and the exact sum at each pattern in rising order,
 -- the average with all weights 1, and every gate's failure at pattern 0. The exact sums are fractions of `parts`.

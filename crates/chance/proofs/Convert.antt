@@ -3,7 +3,8 @@
 use Prim.Native.Nat.{ℕ, _+_, _-_, _*_, _/_, _^_, _≤_, _<_, min}
 use mathlib.Core.Path.{_≡_, refl, sym, ap, _∙_, subst}
 use mathlib.Core.Bool.{Bool, true, false, false≢true}
-use native.Mathlib.Nat.{le-trans, le-of-eq, zero-mul, mul-one, mul-comm, mul-right-comm, mul-le-mul-right, le-of-mul-le-mul-right, add-div-right, div-div-eq-div-mul, div-le-of-le-mul, zero-div}
+use native.Mathlib.Nat.{le-trans, le-of-eq, zero-mul, mul-one, mul-comm, mul-right-comm, mul-le-mul-right, le-of-mul-le-mul-right, add-div-right}
+use native.Mathlib.Nat.{div-div-eq-div-mul, div-le-of-le-mul, zero-div}
 use native.Mathlib.Omega.{arith}
 use lib.IntN.{ℤ, pos}
 use lib.Dec.{T, lt→ltb, lit<, lit≤}

@@ -3,7 +3,8 @@
 use Prim.Native.Nat.{ℕ, zero, suc, _+_, _-_, _*_, _/_, _%_, _^_, _≤_, _<_}
 use mathlib.Core.Path.{_≡_, refl, sym, ap, _∙_, subst}
 use mathlib.Core.Bool.{Bool, false, _&&_}
-use native.Mathlib.Nat.{le-trans, le-of-eq, le-of-lt, lt-of-lt-of-le, lt-of-not-le, lt-irrefl, le-of-suc-le-suc, mul-comm, mul-assoc, mul-left-comm, mul-pos, mul-mul-mul-comm, mul-le-mul-right, one-mul, mul-one, mul-lt-mul-of-pos-right, lt-of-mul-lt-mul-right, mul-div-cancel}
+use native.Mathlib.Nat.{le-trans, le-of-eq, le-of-lt, lt-of-lt-of-le, lt-of-not-le, lt-irrefl, le-of-suc-le-suc, mul-comm, mul-assoc, mul-left-comm, mul-pos}
+use native.Mathlib.Nat.{mul-mul-mul-comm, mul-le-mul-right, one-mul, mul-one, mul-lt-mul-of-pos-right, lt-of-mul-lt-mul-right, mul-div-cancel}
 use native.Mathlib.Omega.{arith}
 use lib.IntN.{ℤ, pos, negsuc}
 use lib.Dec.{T, leb, ltb, eqb, leb→le, ltb→lt, eqb→eq, lit<, lit≤}
@@ -38,13 +39,20 @@ divided l v h = ap (λ (z : ℕ). 2 ^ z) (back l v h) ∙ pow-add 2 (l - v) v
 pub fits-says : (f : Format) (s : Bool) (m : ℕ) (e : ℤ) → T (fits f (fin s m e)) → (m < 2 ^ prec f) × (down e ≤ 2 ^ low f)
 unfolding fits
 fits-says f s zero e t =
-    (pow-pos (prec f), le-trans (le-trans (le-of-eq (sym (one-mul (down e)))) (mul-le-mul-right (down e) (up-pos e))) (le-trans (le-of-eq (eqb→eq (up e * down e) 1 t)) (pow-pos (low f))))
+    (
+      pow-pos (prec f),
+      le-trans (le-trans (le-of-eq (sym (one-mul (down e)))) (mul-le-mul-right (down e) (up-pos e)))
+          (le-trans (le-of-eq (eqb→eq (up e * down e) 1 t)) (pow-pos (low f))),
+    )
 fits-says f s (suc m) e t =
     let a = eqb (suc m % 2) 1 in
     let b = ltb (suc m) (2 ^ prec f) in
     let c = leb (down e) (2 ^ low f) in
     let d = ltb (suc m * up e) (2 ^ suc (emax f) * down e) in
-    (ltb→lt (suc m) (2 ^ prec f) (and-r a b (and-l (a && b) c (and-l (a && b && c) d t))), leb→le (down e) (2 ^ low f) (and-r (a && b) c (and-l (a && b && c) d t)))
+    (
+      ltb→lt (suc m) (2 ^ prec f) (and-r a b (and-l (a && b) c (and-l (a && b && c) d t))),
+      leb→le (down e) (2 ^ low f) (and-r (a && b) c (and-l (a && b && c) d t)),
+    )
 
 pub den-power : (f : Format) (x : Float) → T (fits f x) → (v : ℕ) × (den x ≡ 2 ^ v) × (v ≤ low f)
 den-power f nan t = (0, refl, omega arith)
@@ -101,7 +109,10 @@ mul-value f (fin r m e) (inf q) s t a c b d C D v w = absurd w
 mul-value f (fin r m e) (fin q n g) s t a c b d C D v w =
     ap (λ (z : Bool). round f z (m * up e * (n * up g)) (down e * down g)) (ap (λ (z : Bool). unlike z q) (v .0) ∙ ap (unlike s) (w .0))
     ∙ round-same f (unlike s t) (m * up e * (n * up g)) (down e * down g) (a * b) (c * d) (mul-pos (down-pos e) (down-pos g)) (mul-pos C D)
-    (mul-mul-mul-comm (m * up e) (n * up g) c d ∙ ap (λ (z : ℕ). z * (n * up g * d)) (v .1) ∙ ap (λ (z : ℕ). a * down e * z) (w .1) ∙ mul-mul-mul-comm a (down e) b (down g))
+    (mul-mul-mul-comm (m * up e) (n * up g) c d
+    ∙ ap (λ (z : ℕ). z * (n * up g * d)) (v .1)
+    ∙ ap (λ (z : ℕ). a * down e * z) (w .1)
+    ∙ mul-mul-mul-comm a (down e) b (down g))
 
 -- a number of 32 bits, as a float and times 2^-30
 pub scaled-exact : (n : ℕ) → n < 2 ^ 32 → HasValue (mul binary64 (ofInt binary64 (pos n)) (fin false 1 (negsuc 29))) false n 1_073_741_824

@@ -4,11 +4,11 @@ use Prim.Native.Nat.{ℕ}
 use mathlib.Core.Path.{_≡_, refl}
 use mathlib.Core.List.{List, [], _∷_}
 use lib.Ieee.{ofBits}
-use Rattle.rounding.specs.Rounding.{unitsInOne, roundDiv, toUnits}
+use Rattle.rounding.specs.Rounding.{roundDiv, toUnits}
 use Rattle.chance.specs.declared.FlipUnits.{FlipUnits}
 use Rattle.chance.specs.declared.FlipUnits.the-variants.{Units, Refused}
 use Rattle.chance.specs.Number.{chanceScale, wholeChance, fromZeroToOne}
-use Rattle.chance.specs.Flip.{flipOf, inRange, flipAccepted, chanceOf, flipChance, readUnits}
+use Rattle.chance.specs.Flip.{flipOf, inRange, flipAccepted, chanceOf, flipChance, flipUnits, readUnits}
 
 pub record Row : Type 0 where
   pub kind : ℕ
@@ -35,7 +35,7 @@ Right [] = Unit {0}
 Right (r ∷ rs) = (readUnits (r .kind) (r .field) ≡ r .answer) × Right rs
 
 pub fields : Right rows
-unfolding readUnits flipAccepted flipOf inRange fromZeroToOne ofBits flipChance chanceOf wholeChance chanceScale toUnits roundDiv
+unfolding readUnits flipUnits flipAccepted flipOf inRange fromZeroToOne ofBits flipChance chanceOf wholeChance chanceScale toUnits roundDiv
 fields = (refl, (refl, (refl, (refl, (refl, (refl, (refl, (refl, tt))))))))
 
 -- minus zero is the chance 0 itself, before conversion

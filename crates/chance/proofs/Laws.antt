@@ -3,7 +3,8 @@ use Prim.Native.Nat.{ℕ, zero, suc, _+_, _*_, _^_, _≤_, _<_}
 use mathlib.Core.Path.{_≡_, refl, sym, ap, _∙_}
 use mathlib.Core.Bool.{Bool, true, false, cond, _&&_, false≢true}
 use mathlib.Core.List.{List}
-use native.Mathlib.Nat.{le-trans, le-of-eq, add-le-add, eq-of-mul-eq-mul-right, mul-assoc, mul-left-comm, mul-pos, mul-comm, mul-le-mul, mul-le-mul-right, zero-mul, div-le-of-le-mul}
+use native.Mathlib.Nat.{le-trans, le-of-eq, add-le-add, eq-of-mul-eq-mul-right, mul-assoc, mul-left-comm, mul-pos, mul-comm, mul-le-mul, mul-le-mul-right}
+use native.Mathlib.Nat.{zero-mul, div-le-of-le-mul}
 use native.Mathlib.Omega.{arith}
 use lib.Dec.{T, lit≤}
 use lib.Ieee.{Float, nan, inf, fin, binary32, binary64, fits, ofBits}
@@ -18,7 +19,8 @@ use Rattle.chance.specs.declared.Flip.the-variants.{Never, Plain, Strike
 use Rattle.chance.specs.declared.FlipRead.the-variants.{Accepted, Refused}
 use Rattle.chance.specs.declared.FlipUnits.the-variants.{Units, Refused as NoUnits}
 use Rattle.chance.specs.Number.{chanceScale, wholeChance, fromZeroToOne, chanceBits}
-use Rattle.chance.specs.Flip.{firstHalf, secondHalf, wholeField, inRange, flipOf, flipAccepted, chanceOf, flipChance, readFlip, readUnits}
+use Rattle.chance.specs.Flip.{firstHalf, secondHalf, wholeField, inRange, flipOf, flipAccepted, chanceOf, flipChance}
+use Rattle.chance.specs.Flip.{flipUnits, readFlip, readUnits}
 use Rattle.chance.specs.Statements.{PlainExact, StrikeExact, ChanceAtMost}
 use Rattle.chance.proofs.Range.{range-of-bits}
 use Rattle.chance.proofs.Exact.{den-power, scale-pos, whole-exact}
@@ -64,10 +66,10 @@ read-chance kind field flip e = ap chanceOf (sym (read-accepted kind field flip 
 
 -- and in units
 pub units-accepted : (kind : ℕ) (field : List ℕ) (units : ℕ) → readUnits kind field ≡ Units units
-    → (flipAccepted kind field ≡ true) × (toUnits unitsInOne chanceScale (flipChance kind field) ≡ units)
+    → (flipAccepted kind field ≡ true) × (flipUnits kind field ≡ units)
 unfolding readUnits
 units-accepted kind field units e =
-    let n = toUnits unitsInOne chanceScale (flipChance kind field) in
+    let n = flipUnits kind field in
     let r = cond-first (flipAccepted kind field) (Units n) NoUnits (Units units) (λ p. let z : _≡_ {A = ℕ} 0 1 = cc in omega arith) e in
     let f : Units n ≡ Units units = r .1 in
     (r .0, cc)
@@ -75,7 +77,7 @@ units-accepted kind field units e =
 pub units-refused : (kind : ℕ) (field : List ℕ) → readUnits kind field ≡ NoUnits → flipAccepted kind field ≡ false
 unfolding readUnits
 units-refused kind field e =
-    cond-second (flipAccepted kind field) (Units (toUnits unitsInOne chanceScale (flipChance kind field))) NoUnits NoUnits (λ p. let z : _≡_ {A = ℕ} 0 1 = cc in omega arith) e
+    cond-second (flipAccepted kind field) (Units (flipUnits kind field)) NoUnits NoUnits (λ p. let z : _≡_ {A = ℕ} 0 1 = cc in omega arith) e
 
 -- ---- acceptance on the bits
 
@@ -133,8 +135,8 @@ to-units-at-most chance h =
 pub units-at-most : (flip : Flip) → inRange flip ≡ true → toUnits unitsInOne chanceScale (chanceOf flip) ≤ unitsInOne
 units-at-most flip h = to-units-at-most (chanceOf flip) (chance-at-most flip h)
 
-pub flip-units-at-most : (kind : ℕ) (field : List ℕ) → flipAccepted kind field ≡ true
-    → toUnits unitsInOne chanceScale (flipChance kind field) ≤ unitsInOne
+pub flip-units-at-most : (kind : ℕ) (field : List ℕ) → flipAccepted kind field ≡ true → flipUnits kind field ≤ unitsInOne
+unfolding flipUnits
 flip-units-at-most kind field h = to-units-at-most (flipChance kind field) (flip-chance-at-most kind field h)
 
 -- and no chance is no unit

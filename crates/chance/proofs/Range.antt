@@ -3,7 +3,10 @@ use Prim.Native.Nat.{ℕ, zero, suc, _+_, _-_, _*_, _/_, _%_, _^_, _≤_, _<_, z
 use mathlib.Core.Path.{_≡_, refl, sym, ap, _∙_, subst}
 use mathlib.Core.Logic.{_⊎_, inl, inr}
 use mathlib.Core.Bool.{Bool, true, false, not, cond, _&&_, _||_, true≢false, false≢true}
-use native.Mathlib.Nat.{le-trans, le-of-eq, le-of-lt, lt-irrefl, lt-of-lt-of-le, lt-of-le-of-lt, eq-or-lt-of-le, zero-lt-suc, zero-mul, one-mul, mul-one, mul-comm, mul-assoc, mul-pos, mul-le-mul-left, mul-le-mul-right, le-of-mul-le-mul-right, mul-lt-mul-of-pos-right, zero-add, add-zero, le-of-suc-le-suc, le-add-right, pow-succ', lt-of-mul-lt-mul-right, mul-lt-mul-of-pos-left, div-add-mod', mod-lt, mod-eq-of-lt, mod-eq-sub-mod, mod-mod-of-dvd, dvd-mul-right}
+use native.Mathlib.Nat.{le-trans, le-of-eq, le-of-lt, lt-irrefl, lt-of-lt-of-le, lt-of-le-of-lt, eq-or-lt-of-le, zero-lt-suc, zero-mul, one-mul, mul-one}
+use native.Mathlib.Nat.{mul-comm, mul-assoc, mul-pos, mul-le-mul-left, mul-le-mul-right, le-of-mul-le-mul-right, mul-lt-mul-of-pos-right, zero-add, add-zero}
+use native.Mathlib.Nat.{le-of-suc-le-suc, le-add-right, pow-succ', lt-of-mul-lt-mul-right, mul-lt-mul-of-pos-left, div-add-mod', mod-lt, mod-eq-of-lt}
+use native.Mathlib.Nat.{mod-eq-sub-mod, mod-mod-of-dvd, dvd-mul-right}
 use native.Mathlib.Omega.{arith}
 use borrow.Author.Tests.{lt-ltb, le-leb, lt-leb, eq-eqb, ne-eqb, leb-true, leb-false, eqb-true, ltb-true}
 use lib.Dec.{T, leb, ltb, eqb, lit≤}
@@ -149,7 +152,8 @@ fields-range f true (suc x) t d = go (eqb (suc x) (ones f))
     go : (b : Bool) → fromZeroToOne (cond b (cond (eqb t 0) (inf true) nan) (odd (prec f) true (hid f + t) x (low f))) ≡ eqb (suc x * hid f + t) 0
     go true = no-number (eqb t 0) true ∙ sym none
     go false =
-        range-of-minus (odd (prec f) true (hid f + t) x (low f)) ((hid f + t) * 2 ^ x) (2 ^ low f) (pow-pos (low f)) (odd-sign (prec f) true (hid f + t) x (low f))
+        range-of-minus (odd (prec f) true (hid f + t) x (low f)) ((hid f + t) * 2 ^ x) (2 ^ low f) (pow-pos (low f))
+        (odd-sign (prec f) true (hid f + t) x (low f))
         ∙ ne-eqb ((hid f + t) * 2 ^ x) 0 some
         ∙ sym none
 fields-range f false (suc x) t d = go (eqb (suc x) (ones f)) (eqb-true (suc x) (ones f))
@@ -163,7 +167,8 @@ fields-range f false (suc x) t d = go (eqb (suc x) (ones f)) (eqb-true (suc x) (
         no-number (eqb t 0) false
         ∙ sym (lt-leb (suc x * hid f + t) (emax f * hid f) (past (hid f) (emax f) (pow-pos (prec f - 1)) (last refl)))
     go false last =
-        range-of-value (odd (prec f) false (hid f + t) x (low f)) ((hid f + t) * 2 ^ x) (2 ^ low f) (pow-pos (low f)) (odd-sign (prec f) false (hid f + t) x (low f))
+        range-of-value (odd (prec f) false (hid f + t) x (low f)) ((hid f + t) * 2 ^ x) (2 ^ low f) (pow-pos (low f))
+        (odd-sign (prec f) false (hid f + t) x (low f))
         ∙ ap (leb ((hid f + t) * 2 ^ x)) (unit f)
         ∙ field-test (hid f) (emax f) x t d (emax-pos f)
 

@@ -64,6 +64,10 @@ chanceOf (Struck s) = wholeChance (num (s .chance) * num (s .window)) (den (s .c
 unfoldable pub flipChance : ℕ → List ℕ → ℕ
 flipChance kind field = chanceOf (flipOf kind field)
 
+-- the chance converted once, in units
+unfoldable pub flipUnits : ℕ → List ℕ → ℕ
+flipUnits kind field = toUnits unitsInOne chanceScale (flipChance kind field)
+
 -- the answer of reading a field: what it says, or refused
 abbrev pub readIf : Bool → Flip → FlipRead
 readIf accepted flip = cond accepted (Accepted flip) Refused
@@ -71,9 +75,9 @@ readIf accepted flip = cond accepted (Accepted flip) Refused
 unfoldable pub readFlip : ℕ → List ℕ → FlipRead
 readFlip kind field = readIf (flipAccepted kind field) (flipOf kind field)
 
--- the answer of reading a field in units: its chance converted once, or refused
+-- the answer of reading a field in units, or refused
 abbrev pub unitsIf : Bool → ℕ → FlipUnits
 unitsIf accepted units = cond accepted (Units units) NoUnits
 
 unfoldable pub readUnits : ℕ → List ℕ → FlipUnits
-readUnits kind field = unitsIf (flipAccepted kind field) (toUnits unitsInOne chanceScale (flipChance kind field))
+readUnits kind field = unitsIf (flipAccepted kind field) (flipUnits kind field)

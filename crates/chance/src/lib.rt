@@ -41,14 +41,14 @@ const ONE_F32: u64 = 0x3f80_0000;
 
 const MINUS_ZERO_F32: u64 = 0x8000_0000;
 
-fn wide(x: u8) -> u32
+pub fn wide(x: u8) -> u32
     ensures { λ r. ⌜ (r ≡ x) × (r < 256) ⌝ }
 {
     x as u32
 }
 
 // Four bytes as one number, the lowest first.
-fn four_bytes(a: u8, b: u8, c: u8, d: u8) -> u32
+pub fn four_bytes(a: u8, b: u8, c: u8, d: u8) -> u32
     ensures { λ r. ⌜ r ≡ fourBytes a b c d ⌝ }
 {
     wide(a) + 256 * wide(b) + 65_536 * wide(c) + 16_777_216 * wide(d)

@@ -1,7 +1,7 @@
 -- The bridge: a fresh area whose flips are a netlist's chances in units holds that netlist's right values, failures and reliability. Assumes nothing.
 use Prim.Native.Nat.{ℕ, zero, suc, _+_, _*_, _/_, _%_, _^_, _≤_, _<_}
 use mathlib.Core.Bool.{Bool, true, false}
-use mathlib.Core.List.{List, [], _∷_, map}
+use mathlib.Core.List.{List, [], _∷_, map, map-map}
 use mathlib.Core.Logic.{⊎-elim}
 use mathlib.Core.Path.{_≡_, refl, sym, ap, ap₂, subst, _∙_}
 use native.Mathlib.Nat.{mod-mod, eq-or-lt-of-le, le-of-suc-le-suc, le-refl}
@@ -9,6 +9,7 @@ use native.Mathlib.Omega.{arith}
 use lib.ListN.{length, getD}
 use lib.Dec.{eqb}
 use borrow.Author.Tests.{eq-eqb, ne-eqb}
+use Rattle.lists.specs.Lists.{Below}
 use Rattle.rounding.specs.Rounding.{unitsInOne, toUnits}
 use Rattle.figure.specs.Figure.{bitOf, answer, gateFailure, outputStep, rightOf, failureOf, gateWord}
 use Rattle.netlist.specs.Netlist.{Gate, Netlist, pinValues, rightValues}
@@ -16,14 +17,14 @@ use Rattle.netlist.specs.Figures.{pinFailures, failures, reliabilityFrom, relia
 use Rattle.netlist.proofs.Values.{right-input, right-gate, rightStep}
 use Rattle.netlist.proofs.Failures.{failure-input, failure-gate, failureStep}
 use Rattle.area.specs.Layout.{inputs, gates, pattern, reliabilityWord, table, flip, usedPins, outputWords, sourceWord}
-use Rattle.area.specs.Rules.{Sound}
+use Rattle.area.specs.Rules.{NetSound}
 use Rattle.work.specs.Work.{gateFigure, reliabilityNow}
-use Rattle.area.specs.Figures.{productFrom}
-use Rattle.work.proofs.Sound.{used-pin-below, output-below}
+use Rattle.area.specs.Figures.{gateWordFrom, productFrom}
+use Rattle.area.proofs.Words.{used-below, output-below}
 use Rattle.area.specs.Net.{netOf}
 use Rattle.area.proofs.Net.{gate-at, gate-count, sound-pins}
 use Rattle.fresh.specs.Fresh.{Fresh, Converted}
-use Rattle.fresh.proofs.Sources.{source-input, source-gate, source-cases}
+use Rattle.fresh.proofs.Sources.{map-same, source-input, source-gate, source-cases}
 
 -- 2 × failure + right value, taken apart
 right-of-word : (f : ℕ) (b : Bool) → rightOf (2 * f + bitOf b) ≡ b
@@ -36,15 +37,14 @@ failure-of-word f false = omega arith
 
 map-twice : {B : Type 0} (r : ℕ → B) (f : ℕ → ℕ) (h : ℕ → B) (xs : List ℕ) → ((i : ℕ) → i < length xs → r (f (getD xs i 0)) ≡ h (getD xs i 0))
     → map r (map f xs) ≡ map h xs
-map-twice r f h [] e = refl
-map-twice r f h (x ∷ xs) e = ap₂ _∷_ (e 0 (omega arith)) (map-twice r f h xs (λ i l. e (suc i) (omega arith)))
+map-twice r f h xs e = map-map r f xs ∙ map-same (λ (x : ℕ). r (f x)) h xs e
 
 -- source s's word holds its right value and its failure
 pub record Holds (d : ℕ) (ws : List ℕ) (net : Netlist) (s : ℕ) : Type 0 where
   pub right : rightOf (sourceWord ws s) ≡ getD (rightValues net (pattern ws)) s false
   pub failure : failureOf (sourceWord ws s) ≡ getD (failures unitsInOne d net (pattern ws)) s 0
 
-module _ (d : ℕ) (ws kinds chances : List ℕ) (sound : Sound ws) (fresh : Fresh ws) (converted : Converted d ws chances) where
+module _ (d : ℕ) (ws kinds chances : List ℕ) (sound : NetSound ws) (fresh : Fresh ws) (converted : Converted d ws chances) where
   input-holds : (s : ℕ) → s < inputs ws → Holds d ws (netOf ws kinds chances) s
   input-holds s l =
       let net = netOf ws kinds chances in
@@ -57,7 +57,7 @@ module _ (d : ℕ) (ws kinds chances : List ℕ) (sound : Sound ws) (fresh : Fre
 
   gate-holds : (j : ℕ) → j < gates ws → ((s : ℕ) → s < inputs ws + j → Holds d ws (netOf ws kinds chances) s)
       → Holds d ws (netOf ws kinds chances) (inputs ws + j)
-  unfolding gateFigure gateWord
+  unfolding gateFigure gateWordFrom gateWord
   gate-holds j l earlier =
       let net = netOf ws kinds chances in
       let q = pattern ws in
@@ -70,10 +70,10 @@ module _ (d : ℕ) (ws kinds chances : List ℕ) (sound : Sound ws) (fresh : Fre
       let inside : j < length (net .gates) = omega (arith, gate-count ws kinds chances) in
       let values : map rightOf words ≡ vs
       = map-twice rightOf (sourceWord ws) (λ (s : ℕ). getD (rightValues net q) s false) ps
-      (λ i k. earlier (getD ps i 0) (used-pin-below ws sound j l i k) .right) in
+      (λ i k. earlier (getD ps i 0) (used-below ws sound j l i k) .right) in
       let fails : map failureOf words ≡ fs
       = map-twice failureOf (sourceWord ws) (λ (s : ℕ). getD (failures unitsInOne d net q) s 0) ps
-      (λ i k. earlier (getD ps i 0) (used-pin-below ws sound j l i k) .failure) in
+      (λ i k. earlier (getD ps i 0) (used-below ws sound j l i k) .failure) in
       let word : sourceWord ws (inputs ws + j) ≡ 2 * gateFailure unitsInOne (table ws j) vs fs p + bitOf (answer (table ws j) vs)
       = source-gate ws j
       ∙ fresh .figures j l
@@ -108,7 +108,7 @@ module _ (d : ℕ) (ws kinds chances : List ℕ) (sound : Sound ws) (fresh : Fre
   pub sources-hold : (s : ℕ) → s < inputs ws + gates ws → Holds d ws (netOf ws kinds chances) s
   sources-hold = holds-below (inputs ws + gates ws) (le-refl (inputs ws + gates ws))
 
-  products : (s : ℕ) (os : List ℕ) → ((i : ℕ) → i < length os → getD os i 0 < inputs ws + gates ws)
+  products : (s : ℕ) (os : List ℕ) → Below (inputs ws + gates ws) os
       → productFrom (sourceWord ws) s os ≡ reliabilityFrom unitsInOne (failures unitsInOne d (netOf ws kinds chances) (pattern ws)) s os
   products s [] below = refl
   products s (o ∷ os) below =

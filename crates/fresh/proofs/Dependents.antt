@@ -1,5 +1,5 @@
 -- Toggling an input and setting a flip work out exactly the gates that depend on it, in order; a gate that does not keeps all its words. Assumes nothing.
-use Prim.Native.Nat.{ℕ, zero, suc, _+_, _-_, _*_, _≤_, _<_}
+use Prim.Native.Nat.{ℕ, zero, suc, _+_, _-_, _≤_, _<_}
 use mathlib.Core.Bool.{Bool, true, false, false≢true}
 use mathlib.Core.List.{List}
 use mathlib.Core.Logic.{_≢_, _↔_, _⊎_, inl, inr, ⊎-elim}
@@ -12,14 +12,16 @@ use lib.Dec.{eqb}
 use borrow.Author.Tests.{eqb-true, eq-eqb}
 use Rattle.netlist.specs.Live.{Depends}
 use Rattle.netlist.proofs.Live.{depends-earlier}
-use Rattle.area.specs.Layout.{inputs, gates, patternIndex, pattern, gateIndex, flipIndex, figureIndex, usedPins}
-use Rattle.area.specs.Rules.{Sound}
+use Rattle.area.specs.Layout.{inputs, gates, patternIndex, pattern, gateWords, gateIndex, flipIndex, figureIndex, usedPins}
+use Rattle.area.specs.Rules.{NetSound}
 use Rattle.work.specs.Work.{workGate, workReliability, readsMarked, workIf, markIf, workMarked, markOf, invertBit, toggleWords, setWords}
 use Rattle.work.proofs.Frame.{SameFrame, same-inputs, same-gates, same-used-pins, same-trans}
-use Rattle.work.proofs.Frame.{same-work-gate, same-work-if, same-store-pattern, same-store-flip, work-if-other, work-reliability-other}
+use Rattle.work.proofs.Frame.{same-work-gate, same-work-if, same-walk, same-store-pattern, same-store-flip, work-if-kept, work-reliability-kept}
+use Rattle.work.proofs.Sound.{net-same}
 use Rattle.area.specs.Net.{netOf}
 use Rattle.area.proofs.Net.{sound-pins}
 use Rattle.fresh.specs.Fresh.{marksFrom, workChosen}
+use Rattle.fresh.proofs.WorkAll.{FreshAt, chosen-walk, fresh-chosen, fresh-reliability-at}
 use Rattle.fresh.proofs.Marks.{Marked, reads-depends, mark-next, toggle-mark, set-mark, toggle-marks, set-marks}
 
 -- ---- the chosen gates
@@ -39,7 +41,7 @@ chosen-other chosen ws j (suc k) i h =
     chosen-other chosen (workIf (chosen j) ws j) (suc j) k i (λ l from to. h l (omega arith) (omega arith)) ∙ here (chosen j) refl
   where
     here : (c : Bool) → chosen j ≡ c → getD (workIf c ws j) i 0 ≡ getD ws i 0
-    here true e = work-if-other true ws j i (h j (omega arith) (omega arith) e)
+    here true e = work-if-kept true ws j .kept i (h j (omega arith) (omega arith) e)
     here false e = refl
 
 -- where none is chosen nothing is done
@@ -64,7 +66,7 @@ not-true false h = refl
 
 -- ---- the marked gates are the chosen ones, where the choice is dependence on t
 
-module _ (ws kinds chances : List ℕ) (sound : Sound ws) (t : ℕ) (chosen : ℕ → Bool) where
+module _ (ws kinds chances : List ℕ) (sound : NetSound ws) (t : ℕ) (chosen : ℕ → Bool) where
   marked-chosen : (vs marks : List ℕ) (j k : ℕ) → SameFrame ws vs → j + k ≤ gates ws → Marked (netOf ws kinds chances) t marks j
       → ((l : ℕ) → j ≤ l → l < gates ws → (chosen l ≡ true) ↔ Depends (netOf ws kinds chances) (inputs ws + l) t)
       → workMarked vs marks j k ≡ workChosen chosen vs j k
@@ -78,7 +80,8 @@ module _ (ws kinds chances : List ℕ) (sound : Sound ws) (t : ℕ) (chosen : �
       let m = readsMarked marks (usedPins vs j) in
       let agree : m ≡ chosen j
       = ap (readsMarked marks) ps
-      ∙ same-answer (readsMarked marks (usedPins ws j)) (chosen j) (reads-depends ws kinds chances sound t marks j small marked) (decides j (omega arith) small) in
+      ∙ same-answer (readsMarked marks (usedPins ws j)) (chosen j) (reads-depends ws kinds chances sound t marks j small marked)
+      (decides j (omega arith) small) in
       let next : Marked net t (markIf m marks (inputs vs + j)) (suc j)
       = subst (λ (x : ℕ). Marked net t (markIf m marks (x + j)) (suc j)) (sym n)
       (subst (λ (x : List ℕ). Marked net t (markIf (readsMarked marks x) marks (inputs ws + j)) (suc j)) (sym ps)
@@ -90,9 +93,35 @@ module _ (ws kinds chances : List ℕ) (sound : Sound ws) (t : ℕ) (chosen : �
       (λ l from to. decides l (omega arith) to)
       ∙ ap (λ (c : Bool). workChosen chosen (workIf c vs j) (suc j) k) agree
 
+-- ---- the chosen gates are worked out, and no others
+
+module _ (ws stored : List ℕ) (sound : NetSound ws) (same : SameFrame ws stored) {P : ℕ → Type 0} (chosen : ℕ → Bool)
+    (decides : (j : ℕ) → j < gates ws → (chosen j ≡ true) ↔ P j) where
+  abbrev left : List ℕ
+  left = workReliability (workChosen chosen stored 0 (gates ws))
+
+  chosen-worked : (j : ℕ) → j < gates ws → P j → FreshAt left j
+  chosen-worked j l p =
+      let net = net-same ws stored sound same in
+      let count = same-gates ws stored same in
+      let fits : 0 + gates ws ≤ gates stored = omega arith in
+      let walk = same-walk (chosen-walk chosen stored 0 (gates ws)) fits in
+      let worked = workChosen chosen stored 0 (gates ws) in
+      fresh-reliability-at worked (net-same stored worked net walk) j (omega (arith, same-gates stored worked walk))
+      (fresh-chosen chosen stored 0 (gates ws) net fits j (omega arith) (omega arith) (decides j l .1 p))
+
+  chosen-keeps : (j r : ℕ) → j < gates ws → r < gateWords → (P j → ⊥) → getD left (gateIndex j + r) 0 ≡ getD stored (gateIndex j + r) 0
+  chosen-keeps j r l low free =
+      let at = gateIndex j + r in
+      work-reliability-kept (workChosen chosen stored 0 (gates ws)) .kept at (λ e. omega arith)
+      ∙ chosen-other chosen stored 0 (gates ws) at
+      (λ k from to picked e.
+      let here : k ≡ j = omega arith in
+      free (subst P here (decides k (omega arith) .0 picked)))
+
 -- ---- the two calls
 
-module _ (ws kinds chances : List ℕ) (sound : Sound ws) (i : ℕ) (small : i < inputs ws) where
+module _ (ws kinds chances : List ℕ) (sound : NetSound ws) (i : ℕ) (small : i < inputs ws) where
   -- toggling works out the gates that depend on input i, and no others
   pub toggle-works : (chosen : ℕ → Bool)
       → ((j : ℕ) → j < gates ws → (chosen j ≡ true) ↔ Depends (netOf ws kinds chances) (inputs ws + j) i)
@@ -106,29 +135,32 @@ module _ (ws kinds chances : List ℕ) (sound : Sound ws) (i : ℕ) (small : i <
       (λ j from to. decides j to))
 
   -- such a choice: the marks
-  pub toggle-decides : (j : ℕ) → j < gates ws
-      → (eqb (getD (marksFrom ws (markOf i) 0 (gates ws)) (inputs ws + j) 0) 1 ≡ true) ↔ Depends (netOf ws kinds chances) (inputs ws + j) i
+  abbrev pub toggle-chosen : ℕ → Bool
+  toggle-chosen k = eqb (getD (marksFrom ws (markOf i) 0 (gates ws)) (inputs ws + k) 0) 1
+
+  pub toggle-decides : (j : ℕ) → j < gates ws → (toggle-chosen j ≡ true) ↔ Depends (netOf ws kinds chances) (inputs ws + j) i
   toggle-decides j l =
       let mark = getD (marksFrom ws (markOf i) 0 (gates ws)) (inputs ws + j) 0 in
       let means = toggle-marks ws kinds chances sound i j small l in
       (λ e. means .0 (eqb-true mark 1 e), λ d. eq-eqb mark 1 (means .1 d))
 
-  -- a gate that does not depend on input i keeps all its words
-  pub toggle-keeps : (j r : ℕ) → j < gates ws → r < 8 → (Depends (netOf ws kinds chances) (inputs ws + j) i → ⊥)
+  abbrev toggled : List ℕ
+  toggled = set ws patternIndex (invertBit (pattern ws) i)
+
+  -- a gate that depends on input i has what the rule makes of the words left, any other keeps all its words
+  pub toggle-worked : (j : ℕ) → j < gates ws → Depends (netOf ws kinds chances) (inputs ws + j) i → FreshAt (toggleWords ws i) j
+  toggle-worked j l d =
+      subst (λ (xs : List ℕ). FreshAt xs j) (sym (toggle-works toggle-chosen toggle-decides))
+      (chosen-worked ws toggled sound (same-store-pattern ws _) toggle-chosen toggle-decides j l d)
+
+  pub toggle-keeps : (j r : ℕ) → j < gates ws → r < gateWords → (Depends (netOf ws kinds chances) (inputs ws + j) i → ⊥)
       → getD (toggleWords ws i) (gateIndex j + r) 0 ≡ getD ws (gateIndex j + r) 0
   toggle-keeps j r l low free =
-      let q = invertBit (pattern ws) i in
-      let chosen : ℕ → Bool = λ k. eqb (getD (marksFrom ws (markOf i) 0 (gates ws)) (inputs ws + k) 0) 1 in
-      let at = gateIndex j + r in
-      ap (λ (xs : List ℕ). getD xs at 0) (toggle-works chosen toggle-decides)
-      ∙ work-reliability-other (workChosen chosen (set ws patternIndex q) 0 (gates ws)) at (λ e. omega arith)
-      ∙ chosen-other chosen (set ws patternIndex q) 0 (gates ws) at
-      (λ k from to yes e.
-      let same : k ≡ j = omega arith in
-      free (subst (λ (x : ℕ). Depends (netOf ws kinds chances) (inputs ws + x) i) same (toggle-decides k (omega arith) .0 yes)))
-      ∙ getD-set-other ws patternIndex at q 0 (λ e. omega arith)
+      ap (λ (xs : List ℕ). getD xs (gateIndex j + r) 0) (toggle-works toggle-chosen toggle-decides)
+      ∙ chosen-keeps ws toggled sound (same-store-pattern ws _) toggle-chosen toggle-decides j r l low free
+      ∙ getD-set-other ws patternIndex (gateIndex j + r) _ 0 (λ e. omega arith)
 
-module _ (ws kinds chances : List ℕ) (sound : Sound ws) (g : ℕ) (small : g < gates ws) where
+module _ (ws kinds chances : List ℕ) (sound : NetSound ws) (g : ℕ) (small : g < gates ws) where
   -- setting gate g's flip works out g and the gates that depend on it, and no others
   pub set-works : (units : ℕ) (chosen : ℕ → Bool)
       → ((j : ℕ) → j < gates ws → (chosen j ≡ true) ↔ ((j ≡ g) ⊎ Depends (netOf ws kinds chances) (inputs ws + j) (inputs ws + g)))
@@ -163,28 +195,25 @@ module _ (ws kinds chances : List ℕ) (sound : Sound ws) (g : ℕ) (small : g <
       (λ e. ⊎-elim (λ q. absurd (omega arith)) (λ d. d) (decides l to .0 e), λ d. decides l to .1 (inr d)))
       ∙ sym parts)
 
-  pub set-decides : (j : ℕ) → j < gates ws
-      → (eqb (getD (marksFrom ws (markOf (inputs ws + g)) (suc g) (gates ws - suc g)) (inputs ws + j) 0) 1 ≡ true)
-      ↔ ((j ≡ g) ⊎ Depends (netOf ws kinds chances) (inputs ws + j) (inputs ws + g))
+  abbrev pub set-chosen : ℕ → Bool
+  set-chosen k = eqb (getD (marksFrom ws (markOf (inputs ws + g)) (suc g) (gates ws - suc g)) (inputs ws + k) 0) 1
+
+  pub set-decides : (j : ℕ) → j < gates ws → (set-chosen j ≡ true) ↔ ((j ≡ g) ⊎ Depends (netOf ws kinds chances) (inputs ws + j) (inputs ws + g))
   set-decides j l =
       let mark = getD (marksFrom ws (markOf (inputs ws + g)) (suc g) (gates ws - suc g)) (inputs ws + j) 0 in
       let means = set-marks ws kinds chances sound g j small l in
       (λ e. means .0 (eqb-true mark 1 e), λ d. eq-eqb mark 1 (means .1 d))
 
-  -- another gate that does not depend on g keeps all its words
-  pub set-keeps : (units j r : ℕ) → j < gates ws → r < 8 → j ≢ g → (Depends (netOf ws kinds chances) (inputs ws + j) (inputs ws + g) → ⊥)
+  -- gate g and those that depend on it have what the rule makes of the words left, any other keeps all its words
+  pub set-worked : (units j : ℕ) → j < gates ws → (j ≡ g) ⊎ Depends (netOf ws kinds chances) (inputs ws + j) (inputs ws + g)
+      → FreshAt (setWords ws g units) j
+  set-worked units j l d =
+      subst (λ (xs : List ℕ). FreshAt xs j) (sym (set-works units set-chosen set-decides))
+      (chosen-worked ws (set ws (flipIndex g) units) sound (same-store-flip ws g units small) set-chosen set-decides j l d)
+
+  pub set-keeps : (units j r : ℕ) → j < gates ws → r < gateWords → j ≢ g → (Depends (netOf ws kinds chances) (inputs ws + j) (inputs ws + g) → ⊥)
       → getD (setWords ws g units) (gateIndex j + r) 0 ≡ getD ws (gateIndex j + r) 0
   set-keeps units j r l low other free =
-      let stored = set ws (flipIndex g) units in
-      let chosen : ℕ → Bool = λ k. eqb (getD (marksFrom ws (markOf (inputs ws + g)) (suc g) (gates ws - suc g)) (inputs ws + k) 0) 1 in
-      let at = gateIndex j + r in
-      ap (λ (xs : List ℕ). getD xs at 0) (set-works units chosen set-decides)
-      ∙ work-reliability-other (workChosen chosen stored 0 (gates ws)) at (λ e. omega arith)
-      ∙ chosen-other chosen stored 0 (gates ws) at
-      (λ k from to yes e.
-      let same : k ≡ j = omega arith in
-      ⊎-elim
-      (λ q. other (omega arith))
-      (λ d. free (subst (λ (x : ℕ). Depends (netOf ws kinds chances) (inputs ws + x) (inputs ws + g)) same d))
-      (set-decides k (omega arith) .0 yes))
-      ∙ getD-set-other ws (flipIndex g) at units 0 (λ e. other (omega arith))
+      ap (λ (xs : List ℕ). getD xs (gateIndex j + r) 0) (set-works units set-chosen set-decides)
+      ∙ chosen-keeps ws (set ws (flipIndex g) units) sound (same-store-flip ws g units small) set-chosen set-decides j r l low (⊎-elim other free)
+      ∙ getD-set-other ws (flipIndex g) (gateIndex j + r) units 0 (λ e. other (omega arith))

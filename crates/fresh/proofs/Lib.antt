@@ -6,3 +6,4 @@ pub mod Calls
 pub mod Unique
 pub mod Marks
 pub mod Dependents
+pub mod Statements

@@ -16,10 +16,10 @@ use Rattle.netlist.specs.Live.{Depends, reads, reads-further}
 use Rattle.lists.proofs.Counts.{count-at, count-index, below-count}
 use Rattle.netlist.proofs.Live.{depends-earlier}
 use Rattle.area.specs.Layout.{mostSources, inputs, gates, usedPins}
-use Rattle.area.specs.Rules.{Sound}
+use Rattle.area.specs.Rules.{NetSound}
 use Rattle.work.specs.Work.{readsMarked, markIf, markOf}
-use Rattle.work.proofs.Sound.{used-pin-below}
 use Rattle.area.specs.Net.{netOf}
+use Rattle.area.proofs.Words.{used-below, few-sources}
 use Rattle.area.proofs.Net.{gate-at, gate-count, sound-pins}
 use Rattle.fresh.specs.Fresh.{marksFrom}
 use Rattle.fresh.proofs.Sweep.{none-marked}
@@ -90,7 +90,7 @@ mark-start net t j fits behind none =
       later = λ s l. other s (λ e. omega arith);
     }
 
-module _ (ws kinds chances : List ℕ) (sound : Sound ws) (t : ℕ) where
+module _ (ws kinds chances : List ℕ) (sound : NetSound ws) (t : ℕ) where
   pins-at : (j : ℕ) → j < gates ws → gateAt (netOf ws kinds chances) j .pins ≡ usedPins ws j
   pins-at j l = ap (λ (g : Gate). g .pins) (gate-at ws kinds chances j l)
 
@@ -101,7 +101,7 @@ module _ (ws kinds chances : List ℕ) (sound : Sound ws) (t : ℕ) where
       let net = netOf ws kinds chances in
       let inside : j < length (net .gates) = omega (arith, gate-count ws kinds chances) in
       let below : (p : ℕ) → 0 < count p (usedPins ws j) → p < inputs ws + j
-      = λ p h. below-count (inputs ws + j) p (usedPins ws j) (used-pin-below ws sound j l) h in (
+      = λ p h. below-count (inputs ws + j) p (usedPins ws j) (used-below ws sound j l) h in (
         λ e.
             let w = some-marked marks (usedPins ws j) e in
             let read : 0 < count (w .0) (gateAt net j .pins) = rw (pins-at j l) (w .1) in
@@ -123,7 +123,7 @@ module _ (ws kinds chances : List ℕ) (sound : Sound ws) (t : ℕ) where
   marked-step true marks j l e before =
       let s₀ = inputs ws + j in
       let new : getD (set marks s₀ 1) s₀ 0 ≡ 1
-      = getD-set-same marks s₀ 1 0 (omega (arith, before .room, sound .inputs-fit, sound .gates-fit)) in
+      = getD-set-same marks s₀ 1 0 (omega (arith, before .room, few-sources ws sound)) in
       let old : (s : ℕ) → s ≢ s₀ → getD (set marks s₀ 1) s 0 ≡ getD marks s 0 = λ s ne. getD-set-other marks s₀ s 1 0 ne in
       record {
         room = length-set marks s₀ 1 ∙ before .room;
@@ -167,14 +167,14 @@ module _ (ws kinds chances : List ℕ) (sound : Sound ws) (t : ℕ) where
       marks-end (markIf (readsMarked marks (usedPins ws j)) marks (inputs ws + j)) (suc j) k (omega arith) (mark-next marks j (omega arith) before)
 
 -- at the start of toggling input i, and of setting gate g's flip once g is worked out
-module _ (ws kinds chances : List ℕ) (sound : Sound ws) where
+module _ (ws kinds chances : List ℕ) (sound : NetSound ws) where
   pub toggle-mark : (i : ℕ) → i < inputs ws → Marked (netOf ws kinds chances) i (markOf i) 0
   toggle-mark i l =
       mark-start (netOf ws kinds chances) i 0 (omega (arith, sound .inputs-fit)) (omega arith) (λ s k d. omega (arith, depends-gate d))
 
   pub set-mark : (g : ℕ) → g < gates ws → Marked (netOf ws kinds chances) (inputs ws + g) (markOf (inputs ws + g)) (suc g)
   set-mark g l =
-      mark-start (netOf ws kinds chances) (inputs ws + g) (suc g) (omega (arith, sound .inputs-fit, sound .gates-fit)) (omega arith)
+      mark-start (netOf ws kinds chances) (inputs ws + g) (suc g) (omega (arith, few-sources ws sound)) (omega arith)
       (λ s k d. omega (arith, depends-earlier (netOf ws kinds chances) (sound-pins ws kinds chances sound) d))
 
   -- gate j is marked in the end exactly if it depends on input i

@@ -1,5 +1,5 @@
 -- What a gate's figure and the reliability are worked out from: two areas that agree there work out the same. Assumes nothing.
-use Prim.Native.Nat.{ℕ, suc, _+_, _-_, _*_, _/_, _%_, _^_, _≤_, _<_}
+use Prim.Native.Nat.{ℕ, suc, _+_, _-_, _/_, _%_, _^_, _≤_, _<_}
 use mathlib.Core.Bool.{Bool, true, false, cond}
 use mathlib.Core.List.{List, [], _∷_, map}
 use mathlib.Core.Logic.{_≢_}
@@ -10,12 +10,12 @@ use lib.Dec.{ltb}
 use borrow.Author.Tests.{ltb-true, ltb-false, lt-ltb, le-ltb}
 use Rattle.rounding.specs.Rounding.{unitsInOne}
 use Rattle.figure.specs.Figure.{outputStep, failureOf, gateWord}
-use Rattle.area.specs.Layout.{inputs, gates, pattern, table, flip, figureIndex, figure, usedPins, outputWords, sourceWord}
-use Rattle.area.specs.Rules.{Sound}
+use Rattle.area.specs.Layout.{inputs, gates, patternIndex, pattern, table, flip, figureIndex, figure, usedPins, outputWords, sourceWord}
+use Rattle.area.specs.Rules.{NetSound}
 use Rattle.work.specs.Work.{gateFigure, workGate, reliabilityNow}
-use Rattle.area.specs.Figures.{productFrom}
-use Rattle.work.proofs.Frame.{SameFrame, same-inputs, same-table, same-used-pins, same-output-words, same-work-gate, work-gate-other}
-use Rattle.work.proofs.Sound.{used-pin-below, output-below}
+use Rattle.area.specs.Figures.{gateWordFrom, productFrom}
+use Rattle.area.proofs.Words.{used-below, output-below}
+use Rattle.work.proofs.Frame.{SameFrame, same-inputs, same-table, same-used-pins, same-output-words, same-work-gate, work-gate-kept}
 
 pub map-same : {B : Type 0} (f h : ℕ → B) (xs : List ℕ) → ((i : ℕ) → i < length xs → f (getD xs i 0) ≡ h (getD xs i 0)) → map f xs ≡ map h xs
 map-same f h [] e = refl
@@ -53,17 +53,17 @@ source-same ws vs n s bit word =
 pub gate-figure-same : (ws vs : List ℕ) → SameFrame ws vs → (j : ℕ) → flip vs j ≡ flip ws j
     → ((i : ℕ) → i < length (usedPins ws j) → sourceWord vs (getD (usedPins ws j) i 0) ≡ sourceWord ws (getD (usedPins ws j) i 0))
     → gateFigure vs j ≡ gateFigure ws j
-unfolding gateFigure
+unfolding gateFigure gateWordFrom
 gate-figure-same ws vs same j p h =
     ap₂ (λ (t f : ℕ). gateWord unitsInOne t (map (sourceWord vs) (usedPins vs j)) f) (same-table ws vs same j) p
     ∙ ap (λ (ps : List ℕ). gateWord unitsInOne (table ws j) (map (sourceWord vs) ps) (flip ws j)) (same-used-pins ws vs same j)
     ∙ ap (λ (xs : List ℕ). gateWord unitsInOne (table ws j) xs (flip ws j)) (map-same (sourceWord vs) (sourceWord ws) (usedPins ws j) h)
 
 -- which are earlier ones
-pub gate-figure-earlier : (ws vs : List ℕ) → Sound ws → SameFrame ws vs → (j : ℕ) → j < gates ws → flip vs j ≡ flip ws j
+pub gate-figure-earlier : (ws vs : List ℕ) → NetSound ws → SameFrame ws vs → (j : ℕ) → j < gates ws → flip vs j ≡ flip ws j
     → ((s : ℕ) → s < inputs ws + j → sourceWord vs s ≡ sourceWord ws s) → gateFigure vs j ≡ gateFigure ws j
-gate-figure-earlier ws vs sound same j l p h =
-    gate-figure-same ws vs same j p (λ i k. h (getD (usedPins ws j) i 0) (used-pin-below ws sound j l i k))
+gate-figure-earlier ws vs net same j l p h =
+    gate-figure-same ws vs same j p (λ i k. h (getD (usedPins ws j) i 0) (used-below ws net j l i k))
 
 -- outputs whose sources read the same have the same product
 pub product-same : (f h : ℕ → ℕ) (s : ℕ) (os : List ℕ) → ((i : ℕ) → i < length os → f (getD os i 0) ≡ h (getD os i 0)) → productFrom f s os ≡ productFrom h s os
@@ -73,16 +73,16 @@ product-same f h s (o ∷ os) e =
     ∙ product-same f h (outputStep unitsInOne s (failureOf (h o))) os (λ i l. e (suc i) (omega arith))
 
 -- the reliability comes from the words of the outputs' sources
-pub reliability-same : (ws vs : List ℕ) → Sound ws → SameFrame ws vs → ((s : ℕ) → s < inputs ws + gates ws → sourceWord vs s ≡ sourceWord ws s)
+pub reliability-same : (ws vs : List ℕ) → NetSound ws → SameFrame ws vs → ((s : ℕ) → s < inputs ws + gates ws → sourceWord vs s ≡ sourceWord ws s)
     → reliabilityNow vs ≡ reliabilityNow ws
 unfolding reliabilityNow
-reliability-same ws vs sound same h =
+reliability-same ws vs net same h =
     ap (productFrom (sourceWord vs) unitsInOne) (same-output-words ws vs same)
-    ∙ product-same (sourceWord vs) (sourceWord ws) unitsInOne (outputWords ws) (λ i l. h (getD (outputWords ws) i 0) (output-below ws sound i l))
+    ∙ product-same (sourceWord vs) (sourceWord ws) unitsInOne (outputWords ws) (λ i l. h (getD (outputWords ws) i 0) (output-below ws net i l))
 
 -- working out gate j changes no other source
 pub source-work-gate : (ws : List ℕ) (j s : ℕ) → j < gates ws → s ≢ inputs ws + j → sourceWord (workGate ws j) s ≡ sourceWord ws s
 source-work-gate ws j s l other =
     source-same ws (workGate ws j) (same-inputs ws (workGate ws j) (same-work-gate ws j l)) s
-    (λ small. ap (λ (q : ℕ). q / 2 ^ s % 2) (work-gate-other ws j 3 (λ e. omega arith)))
-    (λ k e. work-gate-other ws j (figureIndex k) (λ q. other (omega arith)))
+    (λ small. ap (λ (q : ℕ). q / 2 ^ s % 2) (work-gate-kept ws j .kept patternIndex (λ e. omega arith)))
+    (λ k e. work-gate-kept ws j .kept (figureIndex k) (λ q. other (omega arith)))

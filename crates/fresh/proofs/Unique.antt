@@ -1,51 +1,65 @@
 -- A fresh area is settled by its netlist, flips and pattern: two that agree there are equal word for word. So toggling an input or setting a flip leaves
 -- what storing it and working everything out would. Assumes nothing.
-use Prim.Native.Nat.{ℕ, zero, suc, _+_, _-_, _*_, _/_, _%_, _^_, _≤_, _<_}
+use Prim.Native.Nat.{ℕ, zero, suc, _+_, _-_, _/_, _%_, _^_, _≤_, _<_}
 use mathlib.Core.List.{List}
-use mathlib.Core.Logic.{_≢_, ⊎-elim, by-cases}
-use mathlib.Core.Path.{_≡_, refl, sym, ap, ap₂, subst, _∙_}
+use mathlib.Core.Logic.{⊎-elim, by-cases}
+use mathlib.Core.Path.{_≡_, refl, sym, ap, subst, _∙_}
 use native.Mathlib.Nat.{eq-or-lt-of-le, le-of-suc-le-suc, le-refl, add-zero}
 use native.Mathlib.Decide.{decLt, ℕ-discrete}
 use native.Mathlib.Omega.{arith}
-use lib.ListN.{length, getD, set, take, drop}
-use lib.Seq.{getD-set-same, getD-set-other, getD-take, getD-drop, ext-getD}
-use Rattle.rounding.specs.Rounding.{unitsInOne}
-use Rattle.area.specs.Layout.{inputs, gates, outputs, patternIndex, pattern, reliabilityIndex, reliabilityWord, gateIndex, pinCount, table, pinsIndex, pins}
-use Rattle.area.specs.Layout.{flipIndex, flip, figureIndex, figure, outputsIndex, outputWords, needed, sourceWord}
-use Rattle.area.specs.Rules.{Sound}
+use lib.ListN.{length, getD, set}
+use lib.Seq.{getD-set-same, getD-set-other, ext-getD}
+use Rattle.area.specs.Layout.{mostPins, headWords, gateWords, inputs, gates, outputs, patternIndex, pattern, reliabilityIndex, reliabilityWord}
+use Rattle.area.specs.Layout.{gateIndex, pinCount, table, pinsIndex, pins, flipIndex, flip, figureIndex, figure}
+use Rattle.area.specs.Layout.{outputsIndex, outputWords, needed, sourceWord}
+use Rattle.area.specs.Rules.{NetSound, Sound}
+use Rattle.area.proofs.Words.{pin-at, output-at}
 use Rattle.work.specs.Work.{workAll, invertBit, toggleWords, setWords}
-use Rattle.work.proofs.Frame.{FrameWord, SameFrame, head-frame, gate-frame, past-frame, same-inputs, same-gates, same-sym, same-trans}
-use Rattle.work.proofs.Frame.{same-work-all, same-store-pattern, same-store-flip, same-toggle, same-set, work-all-other}
-use Rattle.work.proofs.Pattern.{invert-fits}
-use Rattle.work.proofs.Sound.{sound-work-all, sound-store-pattern, sound-store-flip, sound-toggle, sound-set}
+use Rattle.work.proofs.Frame.{FrameWord, SameFrame, same-inputs, same-gates, same-sym, same-trans, same-work-all, same-store-pattern, same-store-flip}
+use Rattle.work.proofs.Frame.{same-toggle, same-set, work-all-pattern, work-all-flip}
+use Rattle.work.proofs.Sound.{net-same}
 use Rattle.fresh.specs.Fresh.{Fresh}
 use Rattle.fresh.proofs.Sources.{source-same, gate-figure-earlier, reliability-same}
 use Rattle.fresh.proofs.WorkAll.{work-all-fresh}
 use Rattle.fresh.proofs.Calls.{toggle-flip, toggle-pattern, toggle-fresh, set-pattern, set-flip, set-flip-other, set-fresh}
 
-eight-cases : (C : ℕ → Type 0) → C 0 → C 1 → C 2 → C 3 → C 4 → C 5 → C 6 → C 7 → (r : ℕ) → r < 8 → C r
-eight-cases C a b c d e f g h zero l = a
-eight-cases C a b c d e f g h (suc zero) l = b
-eight-cases C a b c d e f g h (suc (suc zero)) l = c
-eight-cases C a b c d e f g h (suc (suc (suc zero))) l = d
-eight-cases C a b c d e f g h (suc (suc (suc (suc zero)))) l = e
-eight-cases C a b c d e f g h (suc (suc (suc (suc (suc zero))))) l = f
-eight-cases C a b c d e f g h (suc (suc (suc (suc (suc (suc zero)))))) l = g
-eight-cases C a b c d e f g h (suc (suc (suc (suc (suc (suc (suc zero))))))) l = h
-eight-cases C a b c d e f g h (suc (suc (suc (suc (suc (suc (suc (suc r)))))))) l = absurd (omega arith)
-
--- a word is of the head, of a gate, or past the gates
-word-cases : (C : ℕ → Type 0) (g : ℕ) → ((i : ℕ) → i < 8 → C i) → ((j r : ℕ) → j < g → r < 8 → C (gateIndex j + r))
-    → ((i : ℕ) → gateIndex g ≤ i → C i) → (i : ℕ) → C i
-word-cases C g head gate past i =
-    by-cases (decLt i 8) (head i) (λ no.
-    by-cases (decLt i (gateIndex g))
+-- every word of an area is the pattern, the reliability, a gate's flip or figure, or of the frame
+word-kinds : (C : ℕ → Type 0) (g : ℕ) → C patternIndex → C reliabilityIndex → ((j : ℕ) → j < g → C (flipIndex j)) → ((j : ℕ) → j < g → C (figureIndex j))
+    → ((i : ℕ) → FrameWord g i → C i) → (i : ℕ) → C i
+word-kinds C g at-pattern at-reliability at-flip at-figure frame i =
+    by-cases (ℕ-discrete i patternIndex) (λ e. subst C (sym e) at-pattern) (λ p.
+    by-cases (ℕ-discrete i reliabilityIndex) (λ e. subst C (sym e) at-reliability) (λ r.
+    by-cases (decLt j g)
     (λ l.
-    let at : gateIndex ((i - 8) / 8) + (i - 8) % 8 ≡ i = omega arith in
-    subst C at (gate ((i - 8) / 8) ((i - 8) % 8) (omega arith) (omega arith)))
-    (λ l. past i (omega arith)))
+    by-cases (ℕ-discrete i (flipIndex j)) (λ e. subst C (sym e) (at-flip j l)) (λ f.
+    by-cases (ℕ-discrete i (figureIndex j)) (λ e. subst C (sym e) (at-figure j l)) (λ w.
+    frame i
+    (record {
+      not-pattern = p;
+      not-reliability = r;
+      not-flip = λ k small e. f (e ∙ ap flipIndex (flip-of k e));
+      not-figure = λ k small e. w (e ∙ ap figureIndex (figure-of k e));
+    }))))
+    (λ no.
+    frame i
+    (record {
+      not-pattern = p;
+      not-reliability = r;
+      not-flip = λ k small e. no (subst (λ (x : ℕ). x < g) (flip-of k e) small);
+      not-figure = λ k small e. no (subst (λ (x : ℕ). x < g) (figure-of k e) small);
+    }))))
+  where
+    -- the gate whose word this would be
+    j : ℕ
+    j = (i - headWords) / gateWords
 
-module _ (ws vs : List ℕ) (sound : Sound ws) (fresh-ws : Fresh ws) (fresh-vs : Fresh vs) (same : SameFrame ws vs) (pattern-same : pattern vs ≡ pattern ws)
+    flip-of : (k : ℕ) → i ≡ flipIndex k → k ≡ j
+    flip-of k e = omega arith
+
+    figure-of : (k : ℕ) → i ≡ figureIndex k → k ≡ j
+    figure-of k e = omega arith
+
+module _ (ws vs : List ℕ) (net : NetSound ws) (fresh-ws : Fresh ws) (fresh-vs : Fresh vs) (same : SameFrame ws vs) (pattern-same : pattern vs ≡ pattern ws)
     (flips-same : (j : ℕ) → j < gates ws → flip vs j ≡ flip ws j) where
   sources-below : (b : ℕ) → ((l : ℕ) → l < b → figure vs l ≡ figure ws l) → (s : ℕ) → s < inputs ws + b → sourceWord vs s ≡ sourceWord ws s
   sources-below b h s l =
@@ -57,7 +71,7 @@ module _ (ws vs : List ℕ) (sound : Sound ws) (fresh-ws : Fresh ws) (fresh-vs :
       let earlier = figures-below b (omega arith) in
       let here : figure vs b ≡ figure ws b
       = fresh-vs .figures b (omega (arith, same-gates ws vs same))
-      ∙ gate-figure-earlier ws vs sound same b fits (flips-same b fits) (sources-below b earlier)
+      ∙ gate-figure-earlier ws vs net same b fits (flips-same b fits) (sources-below b earlier)
       ∙ sym (fresh-ws .figures b fits) in
       ⊎-elim (λ e. subst (λ (t : ℕ). figure vs t ≡ figure ws t) (sym e) here) (earlier l) (eq-or-lt-of-le (le-of-suc-le-suc k))
 
@@ -65,36 +79,12 @@ module _ (ws vs : List ℕ) (sound : Sound ws) (fresh-ws : Fresh ws) (fresh-vs :
   figures-unique = figures-below (gates ws) (le-refl (gates ws))
 
   pub reliability-unique : reliabilityWord vs ≡ reliabilityWord ws
-  reliability-unique = fresh-vs .product ∙ reliability-same ws vs sound same (sources-below (gates ws) figures-unique) ∙ sym (fresh-ws .product)
+  reliability-unique = fresh-vs .product ∙ reliability-same ws vs net same (sources-below (gates ws) figures-unique) ∙ sym (fresh-ws .product)
 
   pub areas-equal : vs ≡ ws
   areas-equal =
-      let frame : (i : ℕ) → FrameWord (gates ws) i → getD vs i 0 ≡ getD ws i 0 = same .kept in
-      let head : (i : ℕ) → i ≢ patternIndex → i ≢ reliabilityIndex → i < 8 → getD vs i 0 ≡ getD ws i 0
-      = λ i three four l. frame i (head-frame (gates ws) i l three four) in
       ext-getD 0 vs ws (same .size)
-      (λ i l.
-      word-cases (λ (k : ℕ). getD vs k 0 ≡ getD ws k 0) (gates ws)
-      (eight-cases (λ (k : ℕ). getD vs k 0 ≡ getD ws k 0)
-      (head 0 (λ e. omega arith) (λ e. omega arith) (omega arith))
-      (head 1 (λ e. omega arith) (λ e. omega arith) (omega arith))
-      (head 2 (λ e. omega arith) (λ e. omega arith) (omega arith))
-      pattern-same
-      reliability-unique
-      (head 5 (λ e. omega arith) (λ e. omega arith) (omega arith))
-      (head 6 (λ e. omega arith) (λ e. omega arith) (omega arith))
-      (head 7 (λ e. omega arith) (λ e. omega arith) (omega arith)))
-      (λ j r inside small.
-      by-cases (decLt r 6)
-      (λ low. frame (gateIndex j + r) (gate-frame (gates ws) j r low))
-      (λ no.
-      by-cases (ℕ-discrete r 6)
-      (λ e. subst (λ (t : ℕ). getD vs (gateIndex j + t) 0 ≡ getD ws (gateIndex j + t) 0) (sym e) (flips-same j inside))
-      (λ other.
-      let last : 7 ≡ r = omega arith in
-      subst (λ (t : ℕ). getD vs (gateIndex j + t) 0 ≡ getD ws (gateIndex j + t) 0) last (figures-unique j inside))))
-      (λ k past. frame k (past-frame (gates ws) k past))
-      i)
+      (λ i l. word-kinds (λ (k : ℕ). getD vs k 0 ≡ getD ws k 0) (gates ws) pattern-same reliability-unique flips-same figures-unique (same .kept) i)
 
 -- what two areas must agree on to have one frame: length, counts, gates, outputs, and the words past them
 pub record SameHeld (ws vs : List ℕ) : Type 0 where
@@ -108,118 +98,129 @@ pub record SameHeld (ws vs : List ℕ) : Type 0 where
   pub output-sources : outputWords vs ≡ outputWords ws
   pub past : (i : ℕ) → needed (gates ws) (outputs ws) ≤ i → getD vs i 0 ≡ getD ws i 0
 
--- the word that a part of the area has at an index
-part-word : (ws : List ℕ) (a n i : ℕ) → i < n → getD ws (a + i) 0 ≡ getD (take n (drop a ws)) i 0
-part-word ws a n i l = sym (getD-take n (drop a ws) i 0 l ∙ getD-drop a ws i 0)
+-- what holds of each of the first eight numbers
+eight-cases : (C : ℕ → Type 0) → C 0 → C 1 → C 2 → C 3 → C 4 → C 5 → C 6 → C 7 → (r : ℕ) → r < 8 → C r
+eight-cases C a b c d e f g h zero l = a
+eight-cases C a b c d e f g h (suc zero) l = b
+eight-cases C a b c d e f g h (suc (suc zero)) l = c
+eight-cases C a b c d e f g h (suc (suc (suc zero))) l = d
+eight-cases C a b c d e f g h (suc (suc (suc (suc zero)))) l = e
+eight-cases C a b c d e f g h (suc (suc (suc (suc (suc zero))))) l = f
+eight-cases C a b c d e f g h (suc (suc (suc (suc (suc (suc zero)))))) l = g
+eight-cases C a b c d e f g h (suc (suc (suc (suc (suc (suc (suc zero))))))) l = h
+eight-cases C a b c d e f g h (suc (suc (suc (suc (suc (suc (suc (suc r)))))))) l = absurd (omega arith)
 
 pub held-frame : (ws vs : List ℕ) → Sound ws → Sound vs → SameHeld ws vs → SameFrame ws vs
 held-frame ws vs sound-ws sound-vs held =
     record {
       size = held .size;
       kept =
-          λ i. word-cases (λ (k : ℕ). FrameWord (gates ws) k → getD vs k 0 ≡ getD ws k 0) (gates ws)
-          (eight-cases (λ (k : ℕ). FrameWord (gates ws) k → getD vs k 0 ≡ getD ws k 0)
-          (λ w. held .input-count)
-          (λ w. held .gate-count)
-          (λ w. held .output-count)
-          (λ w. absurd (w .not-pattern refl))
-          (λ w. absurd (w .not-reliability refl))
-          (λ w. sound-vs .reserved .0 ∙ sym (sound-ws .reserved .0))
-          (λ w. sound-vs .reserved .1 ∙ sym (sound-ws .reserved .1))
-          (λ w. sound-vs .reserved .2 ∙ sym (sound-ws .reserved .2)))
-          (λ j r inside small.
-          let pin : (t : ℕ) → t < 4 → getD vs (pinsIndex j + t) 0 ≡ getD ws (pinsIndex j + t) 0
-          = λ t l.
-          part-word vs (pinsIndex j) 4 t l
-          ∙ ap (λ (ps : List ℕ). getD ps t 0) (held .gate-pins j inside)
-          ∙ sym (part-word ws (pinsIndex j) 4 t l) in
-          let Same : ℕ → Type 0 = λ k. getD vs k 0 ≡ getD ws k 0 in
-          eight-cases (λ (t : ℕ). FrameWord (gates ws) (gateIndex j + t) → getD vs (gateIndex j + t) 0 ≡ getD ws (gateIndex j + t) 0)
-          (λ w. subst Same (sym (add-zero (gateIndex j))) (held .pin-counts j inside))
-          (λ w. held .tables j inside)
-          (λ w. subst Same (omega arith) (pin 0 (omega arith)))
-          (λ w. subst Same (omega arith) (pin 1 (omega arith)))
-          (λ w. subst Same (omega arith) (pin 2 (omega arith)))
-          (λ w. subst Same (omega arith) (pin 3 (omega arith)))
-          (λ w. absurd (w .not-flip j inside refl))
-          (λ w. absurd (w .not-figure j inside refl))
-          r
-          small)
-          (λ k from w.
-          by-cases (decLt k (needed (gates ws) (outputs ws)))
+          λ i w.
+          by-cases (decLt i headWords) (λ l. head i l w) (λ no.
+          by-cases (decLt i (outputsIndex (gates ws)))
           (λ l.
-          let at : outputsIndex (gates ws) + (k - (outputsIndex (gates ws))) ≡ k = omega arith in
-          let t = k - (outputsIndex (gates ws)) in
-          let low : t < outputs ws = omega arith in
-          subst (λ (x : ℕ). getD vs x 0 ≡ getD ws x 0) at
-          (part-word vs (outputsIndex (gates ws)) (outputs ws) t low
-          ∙ ap (λ (x : List ℕ). getD x t 0)
-          (sym (ap₂ (λ (x y : ℕ). take x (drop (gateIndex y) vs)) (held .output-count) (held .gate-count)) ∙ held .output-sources)
-          ∙ sym (part-word ws (outputsIndex (gates ws)) (outputs ws) t low)))
-          (λ no. held .past k (omega arith)))
-          i;
+          let at : gateIndex ((i - headWords) / gateWords) + (i - headWords) % gateWords ≡ i = omega arith in
+          subst (λ (k : ℕ). FrameWord (gates ws) k → Same k) at
+          (gate ((i - headWords) / gateWords) (omega arith) ((i - headWords) % gateWords) (omega arith)) w)
+          (λ l. behind i (omega arith)));
     }
+  where
+    Same : ℕ → Type 0
+    Same k = getD vs k 0 ≡ getD ws k 0
+
+    head : (i : ℕ) → i < headWords → FrameWord (gates ws) i → Same i
+    head =
+        eight-cases (λ (k : ℕ). FrameWord (gates ws) k → Same k)
+        (λ w. held .input-count)
+        (λ w. held .gate-count)
+        (λ w. held .output-count)
+        (λ w. absurd (w .not-pattern refl))
+        (λ w. absurd (w .not-reliability refl))
+        (λ w. sound-vs .reserved .first ∙ sym (sound-ws .reserved .first))
+        (λ w. sound-vs .reserved .second ∙ sym (sound-ws .reserved .second))
+        (λ w. sound-vs .reserved .third ∙ sym (sound-ws .reserved .third))
+
+    gate : (j : ℕ) → j < gates ws → (r : ℕ) → r < gateWords → FrameWord (gates ws) (gateIndex j + r) → Same (gateIndex j + r)
+    gate j inside =
+        let same-pin : (t : ℕ) → t < mostPins → Same (pinsIndex j + t)
+        = λ t l. pin-at vs j t l ∙ ap (λ (ps : List ℕ). getD ps t 0) (held .gate-pins j inside) ∙ sym (pin-at ws j t l) in
+        eight-cases (λ (t : ℕ). FrameWord (gates ws) (gateIndex j + t) → Same (gateIndex j + t))
+        (λ w. subst Same (sym (add-zero (gateIndex j))) (held .pin-counts j inside))
+        (λ w. held .tables j inside)
+        (λ w. subst Same (omega arith) (same-pin 0 (omega arith)))
+        (λ w. subst Same (omega arith) (same-pin 1 (omega arith)))
+        (λ w. subst Same (omega arith) (same-pin 2 (omega arith)))
+        (λ w. subst Same (omega arith) (same-pin 3 (omega arith)))
+        (λ w. absurd (w .not-flip j inside refl))
+        (λ w. absurd (w .not-figure j inside refl))
+
+    -- the outputs, and past them
+    behind : (k : ℕ) → outputsIndex (gates ws) ≤ k → Same k
+    behind k from =
+        by-cases (decLt k (needed (gates ws) (outputs ws)))
+        (λ l.
+        let t = k - outputsIndex (gates ws) in
+        let at : outputsIndex (gates ws) + t ≡ k = omega arith in
+        let low : t < outputs ws = omega arith in
+        subst Same at
+        (ap (λ (g : ℕ). getD vs (outputsIndex g + t) 0) (sym (held .gate-count))
+        ∙ output-at vs t (omega (arith, held .output-count))
+        ∙ ap (λ (os : List ℕ). getD os t 0) (held .output-sources)
+        ∙ sym (output-at ws t low)))
+        (λ no. held .past k (omega arith))
 
 -- two sound and fresh areas that hold the same netlist, flips and pattern are equal
 pub fresh-unique : (ws vs : List ℕ) → Sound ws → Sound vs → Fresh ws → Fresh vs → SameHeld ws vs → ((j : ℕ) → j < gates ws → flip vs j ≡ flip ws j)
     → pattern vs ≡ pattern ws → vs ≡ ws
 fresh-unique ws vs sound-ws sound-vs fresh-ws fresh-vs held flips q =
-    areas-equal ws vs sound-ws fresh-ws fresh-vs (held-frame ws vs sound-ws sound-vs held) q flips
+    areas-equal ws vs (sound-ws .workable .net) fresh-ws fresh-vs (held-frame ws vs sound-ws sound-vs held) q flips
 
 -- working out a fresh area changes nothing
-pub fresh-fixed : (ws : List ℕ) → Sound ws → Fresh ws → workAll ws ≡ ws
-fresh-fixed ws sound fresh =
-    areas-equal ws (workAll ws) sound fresh (work-all-fresh ws sound) (same-work-all ws)
-    (work-all-other ws 3 (λ e. omega arith) (λ j from to e. omega arith))
-    (λ j l. work-all-other ws (flipIndex j) (λ e. omega arith) (λ k from to e. omega arith))
+pub fresh-fixed : (ws : List ℕ) → NetSound ws → Fresh ws → workAll ws ≡ ws
+fresh-fixed ws net fresh =
+    areas-equal ws (workAll ws) net fresh (work-all-fresh ws net) (same-work-all ws) (work-all-pattern ws) (λ j l. work-all-flip ws j)
 
 -- what an area is worked out to does not depend on the figures that it held
-pub work-all-same : (ws vs : List ℕ) → Sound ws → Sound vs → SameFrame ws vs → pattern vs ≡ pattern ws → ((j : ℕ) → j < gates ws → flip vs j ≡ flip ws j)
+pub work-all-same : (ws vs : List ℕ) → NetSound ws → SameFrame ws vs → pattern vs ≡ pattern ws → ((j : ℕ) → j < gates ws → flip vs j ≡ flip ws j)
     → workAll vs ≡ workAll ws
-work-all-same ws vs sound-ws sound-vs same q flips =
-    let kept : (us : List ℕ) (i : ℕ) → i ≢ reliabilityIndex → ((j : ℕ) → i ≢ figureIndex j) → getD (workAll us) i 0 ≡ getD us i 0
-    = λ us i four none. work-all-other us i four (λ j from to. none j) in
-    areas-equal (workAll ws) (workAll vs) (sound-work-all ws sound-ws) (work-all-fresh ws sound-ws) (work-all-fresh vs sound-vs)
-    (same-trans (workAll ws) ws (workAll vs) (same-sym ws (workAll ws) (same-work-all ws)) (same-trans ws vs (workAll vs) same (same-work-all vs)))
-    (kept vs 3 (λ e. omega arith) (λ j e. omega arith) ∙ q ∙ sym (kept ws 3 (λ e. omega arith) (λ j e. omega arith)))
-    (λ j l.
-    kept vs (flipIndex j) (λ e. omega arith) (λ k e. omega arith)
-    ∙ flips j (omega (arith, same-gates ws (workAll ws) (same-work-all ws)))
-    ∙ sym (kept ws (flipIndex j) (λ e. omega arith) (λ k e. omega arith)))
+work-all-same ws vs net same q flips =
+    let worked = same-work-all ws in
+    areas-equal (workAll ws) (workAll vs) (net-same ws (workAll ws) net worked) (work-all-fresh ws net) (work-all-fresh vs (net-same ws vs net same))
+    (same-trans (workAll ws) ws (workAll vs) (same-sym ws (workAll ws) worked) (same-trans ws vs (workAll vs) same (same-work-all vs)))
+    (work-all-pattern vs ∙ q ∙ sym (work-all-pattern ws))
+    (λ j l. work-all-flip vs j ∙ flips j (omega (arith, same-gates ws (workAll ws) worked)) ∙ sym (work-all-flip ws j))
 
 -- a fresh area that has the frame, pattern and flips of another is what that one is worked out to
-pub fresh-is-afresh : (ws vs : List ℕ) → Sound ws → Sound vs → Fresh vs → SameFrame ws vs → pattern vs ≡ pattern ws
+pub fresh-is-afresh : (ws vs : List ℕ) → NetSound ws → Fresh vs → SameFrame ws vs → pattern vs ≡ pattern ws
     → ((j : ℕ) → j < gates ws → flip vs j ≡ flip ws j) → vs ≡ workAll ws
-fresh-is-afresh ws vs sound-ws sound-vs fresh same q flips = sym (fresh-fixed vs sound-vs fresh) ∙ work-all-same ws vs sound-ws sound-vs same q flips
+fresh-is-afresh ws vs net fresh same q flips = sym (fresh-fixed vs (net-same ws vs net same) fresh) ∙ work-all-same ws vs net same q flips
 
-pub toggle-is-afresh : (ws : List ℕ) (i : ℕ) → Sound ws → Fresh ws → i < inputs ws → toggleWords ws i ≡ workAll (set ws patternIndex (invertBit (pattern ws) i))
-toggle-is-afresh ws i sound fresh l =
+pub toggle-is-afresh : (ws : List ℕ) (i : ℕ) → NetSound ws → Fresh ws → i < inputs ws
+    → toggleWords ws i ≡ workAll (set ws patternIndex (invertBit (pattern ws) i))
+toggle-is-afresh ws i net fresh l =
     let q = invertBit (pattern ws) i in
     let stored = set ws patternIndex q in
     let store = same-store-pattern ws q in
     fresh-is-afresh stored (toggleWords ws i)
-    (sound-store-pattern ws q sound (invert-fits (pattern ws) i (inputs ws) l (sound .pattern-fits)))
-    (sound-toggle ws i sound l)
-    (toggle-fresh ws i sound fresh l)
+    (net-same ws stored net store)
+    (toggle-fresh ws i net fresh l)
     (same-trans stored ws (toggleWords ws i) (same-sym ws stored store) (same-toggle ws i))
-    (toggle-pattern ws i sound ∙ sym (getD-set-same ws patternIndex q 0 (omega (arith, sound .long))))
+    (toggle-pattern ws i net ∙ sym (getD-set-same ws patternIndex q 0 (omega (arith, net .long))))
     (λ j inside. toggle-flip ws i j ∙ sym (getD-set-other ws patternIndex (flipIndex j) q 0 (λ e. omega arith)))
 
-pub set-is-afresh : (ws : List ℕ) (g units : ℕ) → Sound ws → Fresh ws → g < gates ws → units ≤ unitsInOne
-    → setWords ws g units ≡ workAll (set ws (flipIndex g) units)
-set-is-afresh ws g units sound fresh l fits =
+pub set-is-afresh : (ws : List ℕ) (g units : ℕ) → NetSound ws → Fresh ws → g < gates ws → setWords ws g units ≡ workAll (set ws (flipIndex g) units)
+set-is-afresh ws g units net fresh l =
     let stored = set ws (flipIndex g) units in
     let store = same-store-flip ws g units l in
     fresh-is-afresh stored (setWords ws g units)
-    (sound-store-flip ws g units sound l fits)
-    (sound-set ws g units sound l fits)
-    (set-fresh ws g units l sound fresh fits)
+    (net-same ws stored net store)
+    (set-fresh ws g units l net fresh)
     (same-trans stored ws (setWords ws g units) (same-sym ws stored store) (same-set ws g units l))
-    (set-pattern ws g units l ∙ sym (getD-set-other ws (flipIndex g) 3 units 0 (λ e. omega arith)))
+    (set-pattern ws g units l ∙ sym (getD-set-other ws (flipIndex g) patternIndex units 0 (λ e. omega arith)))
     (λ j inside.
     by-cases (ℕ-discrete j g)
     (λ e.
     subst (λ (t : ℕ). flip (setWords ws g units) t ≡ flip stored t) (sym e)
-    (set-flip ws g units l sound ∙ sym (getD-set-same ws (flipIndex g) units 0 (omega (arith, sound .long)))))
+    (set-flip ws g units l net ∙ sym (getD-set-same ws (flipIndex g) units 0 (omega (arith, net .long)))))
     (λ other.
     set-flip-other ws g units l j other ∙ sym (getD-set-other ws (flipIndex g) (flipIndex j) units 0 (λ e. other (omega arith)))))

@@ -1,7 +1,7 @@
-pub mod Judged
-pub mod Sets
-pub mod Trailer
-pub mod Gates
+pub mod Passed
 pub mod Middle
-pub mod Joined
+pub mod Numbers
+pub mod Right
+pub mod Words
 pub mod Sound
+pub mod Netlist

@@ -1,82 +1,78 @@
--- The middle: the refusals and the words of its gates and outputs together. Assumes nothing.
-use Prim.Native.Nat.{ℕ, _+_, _*_, _≤_}
+-- The middle of an image: which part it is, and the words that are stored of it. Assumes nothing.
+use Prim.Native.Nat.{ℕ, _+_, _-_, _*_, _≤_}
 use mathlib.Core.Path.{_≡_, refl, sym, ap, _∙_}
-use mathlib.Core.List.{List, _++_}
+use mathlib.Core.List.{List, [], _∷_, _++_}
 use native.Mathlib.Omega.{arith}
-use lib.ListN.{length, drop, length-append}
-use lib.Seq.{sets, sets-eq}
-use Rattle.area.specs.Layout.{gateIndex, outputsIndex}
-use Rattle.image.specs.declared.Loaded.{Loaded}
-use Rattle.refusal.specs.declared.Judgement.the-variants.{Fine, Refused}
-use Rattle.refusal.specs.Judgement.{loaded, lowest}
-use Rattle.lists.specs.Lists.{joined}
-use Rattle.image.specs.Image.{imageInputs, imageGates, imageOutputs, middle}
-use Rattle.image.specs.Refusals.{gateRefusal, outputRefusal, middleRefusal, trailerRefusal, imageRefusal}
-use Rattle.image.specs.Loading.{headWords, gateWords, outputWord, middleWords, imageWords}
-use Rattle.refusal.proofs.Laws.{otherwise-first, otherwise-second}
-use Rattle.image.proofs.Sets.{sets-append, length-joined}
+use lib.ListN.{length, getD, take, drop, length-append, length-drop}
+use lib.Seq.{sets, sets-eq, length-take-le}
+use Rattle.chance.specs.Flip.{flipUnits}
+use Rattle.area.specs.Layout.{headWords, gateWords, gateIndex, outputsIndex, needed}
+use Rattle.lists.proofs.Parts.{sets-append}
+use Rattle.lists.proofs.Joined.{length-joined, length-listed}
+use Rattle.image.specs.Image.{middleBytes, trailerAt, imageInputs, imageGates, imageOutputs, imageBack, middle}
+use Rattle.image.specs.Image.{recordCount, recordKind, recordTable, recordPins, recordField, outputAt}
+use Rattle.image.specs.Refusals.{TrailerRight}
+use Rattle.image.specs.Loading.{recordUnits, newHead, recordWords, gateList, outputList, middleWords, imageWords, imageOver}
 
-module _ (m : List ℕ) (n g k : ℕ) where
-  pub middle-first : (a p : ℕ) → lowest (gateRefusal m n) g ≡ Refused a p → middleRefusal m n g k ≡ Refused a p
-  unfolding middleRefusal
-  middle-first a p e = otherwise-first (lowest (gateRefusal m n) g) (lowest (outputRefusal m n g) k) a p e
+-- the part that the code hands on is the middle, and it has every record and output word
+pub part-middle : (bs : List ℕ) (b : ℕ) → TrailerRight bs → b ≡ imageBack bs
+    → take (trailerAt bs - (trailerAt bs - b)) (drop (trailerAt bs - b) bs) ≡ middle bs
+unfolding middle
+part-middle bs b t e =
+    let inside : imageBack bs ≤ trailerAt bs = t .inside in
+    let back : trailerAt bs - (trailerAt bs - b) ≡ imageBack bs = omega arith in
+    ap (λ (i : ℕ). take i (drop (trailerAt bs - b) bs)) back ∙ ap (λ (i : ℕ). take (imageBack bs) (drop (trailerAt bs - i) bs)) e
 
-  pub middle-second : lowest (gateRefusal m n) g ≡ Fine → middleRefusal m n g k ≡ lowest (outputRefusal m n g) k
-  unfolding middleRefusal
-  middle-second e = otherwise-second (lowest (gateRefusal m n) g) (lowest (outputRefusal m n g) k) e
+pub length-of-middle : (bs : List ℕ) → TrailerRight bs → length (middle bs) ≡ middleBytes (imageGates bs) (imageOutputs bs)
+unfolding middle
+length-of-middle bs t =
+    let inside : imageBack bs ≤ trailerAt bs = t .inside in
+    let enough : imageBack bs ≤ length (drop (trailerAt bs - imageBack bs) bs) = omega (arith, length-drop (trailerAt bs - imageBack bs) bs) in
+    length-take-le (imageBack bs) (drop (trailerAt bs - imageBack bs) bs) enough ∙ t .back
 
-  pub length-gates : length (joined (gateWords m) g) ≡ 8 * g
-  length-gates = length-joined (gateWords m) 8 (λ j. refl) g
+module _ (m : List ℕ) where
+  pub length-gates : (j : ℕ) → length (gateList m j) ≡ gateWords * j
+  length-gates j = length-joined (recordWords m) gateWords (λ i. refl) j
 
-  pub length-outputs : length (joined (outputWord m g) k) ≡ k
-  length-outputs = let e = length-joined (outputWord m g) 1 (λ j. refl) k in omega arith
+  pub gate-place : (j : ℕ) → gateIndex j ≡ headWords + length (gateList m j)
+  gate-place j = ap (λ (x : ℕ). headWords + x) (sym (length-gates j))
 
-  pub length-middle : length (middleWords m n g k) ≡ gateIndex g + k
+  pub length-outputs : (g k : ℕ) → length (outputList m g k) ≡ k
+  length-outputs g k = length-listed (outputAt m g) k
+
+  pub output-place : (g k : ℕ) → outputsIndex g + k ≡ outputsIndex g + length (outputList m g k)
+  output-place g k = ap (λ (x : ℕ). outputsIndex g + x) (sym (length-outputs g k))
+
+  pub length-middle : (n g k : ℕ) → length (middleWords m n g k) ≡ needed g k
   unfolding middleWords
-  length-middle =
-      length-append (headWords n g k) (joined (gateWords m) g ++ joined (outputWord m g) k)
-      ∙ ap (λ (x : ℕ). 8 + x) (length-append (joined (gateWords m) g) (joined (outputWord m g) k))
-      ∙ omega (arith, length-gates, length-outputs)
+  length-middle n g k =
+      length-append (newHead n g k) (gateList m g ++ outputList m g k)
+      ∙ ap (λ (x : ℕ). headWords + x) (length-append (gateList m g) (outputList m g k))
+      ∙ omega (arith, length-gates g, length-outputs g k)
 
   -- the head, the gates and the outputs stored after each other
-  pub middle-words : (l w₁ w₂ w₃ : List ℕ) → w₁ ≡ sets l 0 (headWords n g k) → w₂ ≡ sets w₁ 8 (joined (gateWords m) g)
-      → w₃ ≡ sets w₂ (gateIndex g) (joined (outputWord m g) k) → w₃ ≡ sets l 0 (middleWords m n g k)
+  pub middle-words : (n g k : ℕ) (l w₁ w₂ w₃ : List ℕ) → w₁ ≡ sets l 0 (newHead n g k) → w₂ ≡ sets w₁ headWords (gateList m g)
+      → w₃ ≡ sets w₂ (outputsIndex g) (outputList m g k) → w₃ ≡ sets l 0 (middleWords m n g k)
   unfolding middleWords
-  middle-words l w₁ w₂ w₃ e₁ e₂ e₃ =
-      let rest : w₃ ≡ sets w₁ 8 (joined (gateWords m) g ++ joined (outputWord m g) k) =
-      e₃ ∙ ap (λ (w : List ℕ). sets w (gateIndex g) (joined (outputWord m g) k)) e₂
-      ∙ sym (sets-append (joined (gateWords m) g) (joined (outputWord m g) k) w₁ 8 (gateIndex g) (omega (arith, length-gates))) in
-      rest ∙ ap (λ (w : List ℕ). sets w 8 (joined (gateWords m) g ++ joined (outputWord m g) k)) e₁
-      ∙ sym (sets-append (headWords n g k) (joined (gateWords m) g ++ joined (outputWord m g) k) l 0 8 refl)
+  middle-words n g k l w₁ w₂ w₃ e₁ e₂ e₃ =
+      let gs = gateList m g in
+      let os = outputList m g k in
+      rw (sets-append (newHead n g k) (gs ++ os) l 0 headWords refl, sets-append gs os _ headWords (outputsIndex g) (gate-place g), ← e₁, ← e₂) e₃
 
-pub length-words : (bs : List ℕ) → length (imageWords bs) ≡ outputsIndex (imageGates bs) + imageOutputs bs
+-- the words that the code stores of a record
+pub record-stored : (m : List ℕ) (j count table units : ℕ) (ps : List ℕ) → count ≡ recordCount m j → table ≡ recordTable m j → ps ≡ recordPins m j
+    → flipUnits (recordKind m j) (recordField m j) ≡ units
+    → _≡_ {A = List ℕ} (count ∷ table ∷ getD ps 0 0 ∷ getD ps 1 0 ∷ getD ps 2 0 ∷ getD ps 3 0 ∷ units ∷ 0 ∷ []) (recordWords m j)
+unfolding recordUnits
+record-stored m j count table units ps c t p u = rw (← u, p, c, t)
+
+-- an image's words stored from the first on stand before what is left
+pub length-words : (bs : List ℕ) → length (imageWords bs) ≡ needed (imageGates bs) (imageOutputs bs)
 unfolding imageWords
 length-words bs = length-middle (middle bs) (imageInputs bs) (imageGates bs) (imageOutputs bs)
 
--- words stored from the first on stand before what is left
-pub stored-front : (bs l w : List ℕ) → outputsIndex (imageGates bs) + imageOutputs bs ≤ length l → w ≡ sets l 0 (imageWords bs)
-    → w ≡ imageWords bs ++ drop (outputsIndex (imageGates bs) + imageOutputs bs) l
+pub stored-front : (bs l w : List ℕ) → needed (imageGates bs) (imageOutputs bs) ≤ length l → w ≡ sets l 0 (imageWords bs)
+    → w ≡ imageOver bs l
 stored-front bs l w h e =
-    let n = length-words bs in
-    let i : 0 + length (imageWords bs) ≡ outputsIndex (imageGates bs) + imageOutputs bs = omega arith in
+    let i : 0 + length (imageWords bs) ≡ needed (imageGates bs) (imageOutputs bs) = omega (arith, length-words bs) in
     e ∙ sets-eq (imageWords bs) l 0 (omega arith) ∙ ap (λ (i : ℕ). imageWords bs ++ drop i l) i
-
--- the whole image
-pub image-first : (bs : List ℕ) (a p : ℕ) → trailerRefusal bs ≡ Refused a p → imageRefusal bs ≡ Refused a p
-unfolding imageRefusal
-image-first bs a p e = otherwise-first (trailerRefusal bs) (middleRefusal (middle bs) (imageInputs bs) (imageGates bs) (imageOutputs bs)) a p e
-
-pub image-second : (bs : List ℕ) → trailerRefusal bs ≡ Fine
-    → imageRefusal bs ≡ middleRefusal (middle bs) (imageInputs bs) (imageGates bs) (imageOutputs bs)
-unfolding imageRefusal
-image-second bs e = otherwise-second (trailerRefusal bs) (middleRefusal (middle bs) (imageInputs bs) (imageGates bs) (imageOutputs bs)) e
-
--- what was answered on the part and the counts that were read, said of the image
-module _ (bs part : List ℕ) (n g k : ℕ) (ep : part ≡ middle bs) (en : n ≡ imageInputs bs) (eg : g ≡ imageGates bs) (ek : k ≡ imageOutputs bs) where
-  pub refusal-from : (r : Loaded) → r ≡ loaded (middleRefusal part n g k)
-      → r ≡ loaded (middleRefusal (middle bs) (imageInputs bs) (imageGates bs) (imageOutputs bs))
-  refusal-from r e = rw (← ep, ← en, ← eg, ← ek) e
-
-  pub words-from : middleWords part n g k ≡ imageWords bs
-  unfolding imageWords
-  words-from = rw (← ep, ← en, ← eg, ← ek)

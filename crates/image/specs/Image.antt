@@ -1,9 +1,30 @@
 -- A netlist image, document 01, "The netlist image". bs is the list of its bytes, m its middle: the part before the trailer, from the
--- first gate record on.
+-- first gate record on. The numbers of the layout have their names here and, for the code, in src/lib.rt.
 use Prim.Native.Nat.{ℕ, _+_, _-_, _*_}
 use mathlib.Core.List.{List, [], _∷_}
 use lib.ListN.{length, getD, take, drop}
 use Rattle.chance.specs.Flip.{fourBytes}
+
+-- ---- numbers
+
+abbrev pub longestImage : ℕ
+longestImage = 32_768
+
+abbrev pub trailerBytes : ℕ
+trailerBytes = 16
+
+abbrev pub knownFormat : ℕ
+knownFormat = 1
+
+abbrev pub recordBytes : ℕ
+recordBytes = 20
+
+abbrev pub outputBytes : ℕ
+outputBytes = 2
+
+-- all records and output words
+abbrev pub middleBytes : ℕ → ℕ → ℕ
+middleBytes g k = recordBytes * g + outputBytes * k
 
 -- little-endian numbers of two and of four bytes
 abbrev pub u16At : List ℕ → ℕ → ℕ
@@ -12,9 +33,10 @@ u16At bs at = getD bs at 0 + 256 * getD bs (at + 1) 0
 abbrev pub u32At : List ℕ → ℕ → ℕ
 u32At bs at = fourBytes (getD bs at 0) (getD bs (at + 1) 0) (getD bs (at + 2) 0) (getD bs (at + 3) 0)
 
--- the trailer is the last 16 bytes: inputs, gates, outputs, format, back, total
+-- ---- the trailer, the last bytes: inputs, gates, outputs, format, back, total
+
 abbrev pub trailerAt : List ℕ → ℕ
-trailerAt bs = length bs - 16
+trailerAt bs = length bs - trailerBytes
 
 abbrev pub imageInputs : List ℕ → ℕ
 imageInputs bs = u16At bs (trailerAt bs)
@@ -38,31 +60,42 @@ imageTotal bs = u32At bs (trailerAt bs + 12)
 unfoldable pub middle : List ℕ → List ℕ
 middle bs = take (imageBack bs) (drop (trailerAt bs - imageBack bs) bs)
 
--- gate j's record, 20 bytes: pin count, flip kind, truth table, four pins, eight bytes of flip field
+-- ---- gate j's record: pin count, flip kind, truth table, four pins, eight bytes of flip field
+
+abbrev pub recordAt : ℕ → ℕ
+recordAt j = recordBytes * j
+
 abbrev pub recordCount : List ℕ → ℕ → ℕ
-recordCount m j = getD m (20 * j) 0
+recordCount m j = getD m (recordAt j) 0
 
 abbrev pub recordKind : List ℕ → ℕ → ℕ
-recordKind m j = getD m (20 * j + 1) 0
+recordKind m j = getD m (recordAt j + 1) 0
 
 abbrev pub recordTable : List ℕ → ℕ → ℕ
-recordTable m j = u16At m (20 * j + 2)
+recordTable m j = u16At m (recordAt j + 2)
+
+abbrev pub fourNumbers : List ℕ → ℕ → List ℕ
+fourNumbers m at = u16At m at ∷ u16At m (at + 2) ∷ u16At m (at + 4) ∷ u16At m (at + 6) ∷ []
 
 abbrev pub recordPins : List ℕ → ℕ → List ℕ
-recordPins m j = u16At m (20 * j + 4) ∷ u16At m (20 * j + 6) ∷ u16At m (20 * j + 8) ∷ u16At m (20 * j + 10) ∷ []
+recordPins m j = fourNumbers m (recordAt j + 4)
 
-abbrev pub recordField : List ℕ → ℕ → List ℕ
-recordField m j =
-    getD m (20 * j + 12) 0
-    ∷ getD m (20 * j + 13) 0
-    ∷ getD m (20 * j + 14) 0
-    ∷ getD m (20 * j + 15) 0
-    ∷ getD m (20 * j + 16) 0
-    ∷ getD m (20 * j + 17) 0
-    ∷ getD m (20 * j + 18) 0
-    ∷ getD m (20 * j + 19) 0
+abbrev pub eightBytes : List ℕ → ℕ → List ℕ
+eightBytes m at =
+    getD m at 0
+    ∷ getD m (at + 1) 0
+    ∷ getD m (at + 2) 0
+    ∷ getD m (at + 3) 0
+    ∷ getD m (at + 4) 0
+    ∷ getD m (at + 5) 0
+    ∷ getD m (at + 6) 0
+    ∷ getD m (at + 7) 0
     ∷ []
 
--- output word k, after the records of g gates
+abbrev pub recordField : List ℕ → ℕ → List ℕ
+recordField m j = eightBytes m (recordAt j + 12)
+
+-- ---- output word k, after the records of g gates
+
 abbrev pub outputAt : List ℕ → ℕ → ℕ → ℕ
-outputAt m g k = u16At m (20 * g + 2 * k)
+outputAt m g k = u16At m (middleBytes g k)

@@ -1,5 +1,4 @@
-pub mod Judgement
 pub mod Image
 pub mod Refusals
 pub mod Loading
-pub mod Record
+pub mod Netlist

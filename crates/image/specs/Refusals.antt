@@ -1,42 +1,31 @@
 -- Refusals 1 to 8 of document 01 in their order.
-use Prim.Native.Nat.{ℕ, _+_, _*_, _≤_}
+use Prim.Native.Nat.{ℕ, _+_, _≤_}
 use mathlib.Core.Path.{_≡_}
 use mathlib.Core.Bool.{Bool, _&&_}
 use mathlib.Core.List.{List}
 use lib.ListN.{length}
 use lib.Dec.{leb, ltb, eqb}
 use Rattle.chance.specs.Flip.{flipAccepted}
+use Rattle.area.specs.Layout.{mostInputs, mostGates, mostOutputs}
 use Rattle.area.specs.Rules.{gateShape, usedBelow, countsInRange}
 use Rattle.refusal.specs.declared.Judgement.{Judgement}
 use Rattle.refusal.specs.Judgement.{refuseUnless, otherwise, lowest}
-use Rattle.image.specs.Image.{trailerAt, imageInputs, imageGates, imageOutputs, imageFormat, imageBack, imageTotal, middle, recordCount, recordKind, recordTable, recordPins, recordField, outputAt}
+use Rattle.image.specs.Image.{longestImage, trailerBytes, knownFormat, middleBytes, trailerAt, imageInputs, imageGates, imageOutputs}
+use Rattle.image.specs.Image.{imageFormat, imageBack, imageTotal, middle, recordCount, recordKind, recordTable, recordPins, recordField, outputAt}
 
--- 1: the length from 16 to 32,768, and total the same
+-- 1: the length in range, and total the same
 unfoldable pub lengthRight : List ℕ → Bool
-lengthRight bs = leb 16 (length bs) && (leb (length bs) 32_768 && eqb (imageTotal bs) (length bs))
+lengthRight bs = leb trailerBytes (length bs) && (leb (length bs) longestImage && eqb (imageTotal bs) (length bs))
 
--- 4: back is 20 × G + 2 × K, and at most length - 16
+-- 4: back is the way over all records and output words, and stays inside the image
 unfoldable pub backRight : List ℕ → Bool
-backRight bs = eqb (imageBack bs) (20 * imageGates bs + 2 * imageOutputs bs) && leb (imageBack bs) (trailerAt bs)
+backRight bs = eqb (imageBack bs) (middleBytes (imageGates bs) (imageOutputs bs)) && leb (imageBack bs) (trailerAt bs)
 
 unfoldable pub trailerRefusal : List ℕ → Judgement
 trailerRefusal bs =
     otherwise (refuseUnless (lengthRight bs) 1 0)
-    (otherwise (refuseUnless (eqb (imageFormat bs) 1) 2 0)
+    (otherwise (refuseUnless (eqb (imageFormat bs) knownFormat) 2 0)
     (otherwise (refuseUnless (countsInRange (imageInputs bs) (imageGates bs) (imageOutputs bs)) 3 0) (refuseUnless (backRight bs) 4 0)))
-
--- what is known of a trailer that passes
-pub record TrailerRight (bs : List ℕ) : Type 0 where
-  pub low : 16 ≤ length bs
-  pub high : length bs ≤ 32_768
-  pub total : imageTotal bs ≡ length bs
-  pub format : imageFormat bs ≡ 1
-  pub inputs-fit : imageInputs bs ≤ 12
-  pub gates-fit : imageGates bs ≤ 1024
-  pub some-output : 1 ≤ imageOutputs bs
-  pub outputs-fit : imageOutputs bs ≤ 64
-  pub back : imageBack bs ≡ 20 * imageGates bs + 2 * imageOutputs bs
-  pub inside : imageBack bs ≤ trailerAt bs
 
 -- 5, 6, 7 for gate j of a netlist with n inputs
 unfoldable pub gateRefusal : List ℕ → ℕ → ℕ → Judgement
@@ -53,5 +42,21 @@ outputRefusal m n g k = refuseUnless (ltb (outputAt m g k) (n + g)) 8 k
 unfoldable pub middleRefusal : List ℕ → ℕ → ℕ → ℕ → Judgement
 middleRefusal m n g k = otherwise (lowest (gateRefusal m n) g) (lowest (outputRefusal m n g) k)
 
+abbrev pub netlistRefusal : List ℕ → Judgement
+netlistRefusal bs = middleRefusal (middle bs) (imageInputs bs) (imageGates bs) (imageOutputs bs)
+
 unfoldable pub imageRefusal : List ℕ → Judgement
-imageRefusal bs = otherwise (trailerRefusal bs) (middleRefusal (middle bs) (imageInputs bs) (imageGates bs) (imageOutputs bs))
+imageRefusal bs = otherwise (trailerRefusal bs) (netlistRefusal bs)
+
+-- what is known of a trailer that passes
+pub record TrailerRight (bs : List ℕ) : Type 0 where
+  pub low : trailerBytes ≤ length bs
+  pub high : length bs ≤ longestImage
+  pub total : imageTotal bs ≡ length bs
+  pub format : imageFormat bs ≡ knownFormat
+  pub inputs-fit : imageInputs bs ≤ mostInputs
+  pub gates-fit : imageGates bs ≤ mostGates
+  pub some-output : 1 ≤ imageOutputs bs
+  pub outputs-fit : imageOutputs bs ≤ mostOutputs
+  pub back : imageBack bs ≡ middleBytes (imageGates bs) (imageOutputs bs)
+  pub inside : imageBack bs ≤ trailerAt bs

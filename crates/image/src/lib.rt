@@ -1,293 +1,304 @@
 // Reading a netlist image: refusals 1 to 8 of document 01, and the words of a work area whose figures are not worked out.
 ghost use mathlib.Core.Path.{_≡_};
-ghost use Prim.Native.Nat.{_+_, _*_, _<_, _≤_};
-ghost use mathlib.Core.Bool.{_&&_};
-ghost use mathlib.Core.List.{_++_};
-ghost use lib.ListN.{length, drop};
-ghost use lib.Dec.{leb, eqb};
+ghost use Prim.Native.Nat.{_+_, _<_, _≤_};
+ghost use lib.ListN.{length};
 ghost use lib.Seq.{sets};
 ghost use Rattle.refusal.specs.declared.Judgement.the-variants.{Fine};
-ghost use Rattle.refusal.specs.Judgement.{loaded, lowest};
-ghost use Rattle.lists.specs.Lists.{joined};
-ghost use Rattle.image.specs.Image.{u16At, u32At, imageInputs, imageGates, imageOutputs, middle, recordPins, recordField};
-ghost use Rattle.image.specs.Refusals.{trailerRefusal, TrailerRight, gateRefusal, outputRefusal, middleRefusal, imageRefusal};
-ghost use Rattle.image.specs.Loading.{gateWords, outputWord, middleWords, imageWords};
-ghost use Rattle.image.specs.Record.{gateRecord};
+ghost use Rattle.refusal.specs.Judgement.{lowest};
+ghost use Rattle.area.specs.Layout.{mostInputs, mostGates, mostOutputs, mostWords, headWords, gateIndex, figureIndex, outputsIndex, needed};
+ghost use Rattle.image.specs.Image.{trailerBytes, middleBytes, recordBytes, outputBytes, u16At, u32At, fourNumbers, eightBytes, recordAt};
+ghost use Rattle.image.specs.Refusals.{lengthRight, backRight, trailerRefusal, TrailerRight};
+ghost use Rattle.image.specs.Refusals.{gateRefusal, outputRefusal, middleRefusal, netlistRefusal, imageRefusal};
+ghost use Rattle.image.specs.Loading.{recordWords, outputWord, gateList, outputList, middleWords, imageWords, imageOver};
 use chance::FlipUnits;
+use refusal::Judgement;
 
-// Done, or refused with a number and a place.
-pub enum Loaded {
-    Done,
-    Refused(u8, u32),
-}
+const LONGEST_IMAGE: usize = 32_768;
 
-// A gate record as it stands in the image.
-struct Gate {
-    count: u32,
-    kind: u8,
-    table: u32,
-    pins: [u32; 4],
-    field: [u8; 8],
-}
+const KNOWN_FORMAT: u32 = 1;
 
-fn wide(x: u8) -> u32
-    ensures { λ r. ⌜ (r ≡ x) × (r < 256) ⌝ }
-{
-    x as u32
-}
+// The trailer, and its fields after the number of inputs.
+const TRAILER_BYTES: usize = 16;
+
+const GATES: usize = 2;
+
+const OUTPUTS: usize = 4;
+
+const FORMAT: usize = 6;
+
+const BACK: usize = 8;
+
+const TOTAL: usize = 12;
+
+// A gate record, and its fields after the number of pins.
+const RECORD_BYTES: usize = 20;
+
+const KIND: usize = 1;
+
+const TABLE: usize = 2;
+
+const PINS: usize = 4;
+
+const FIELD: usize = 12;
+
+const OUTPUT_BYTES: usize = 2;
 
 // Two and four bytes as one number, the lowest first.
 fn two_bytes(bytes: &[u8], at: usize) -> u32
     requires { ⌜ at + 2 ≤ length (now bytes) ⌝ }
     ensures { λ r. ⌜ (r ≡ u16At (now (bytes .entry)) at) × (r < 65_536) ⌝ }
 {
-    wide(bytes[at]) + 256 * wide(bytes[at + 1])
+    chance::wide(bytes[at]) + 256 * chance::wide(bytes[at + 1])
 }
 
 fn four_bytes(bytes: &[u8], at: usize) -> u32
     requires { ⌜ at + 4 ≤ length (now bytes) ⌝ }
     ensures { λ r. ⌜ r ≡ u32At (now (bytes .entry)) at ⌝ }
 {
-    wide(bytes[at])
-        + 256 * wide(bytes[at + 1])
-        + 65_536 * wide(bytes[at + 2])
-        + 16_777_216 * wide(bytes[at + 3])
+    chance::four_bytes(bytes[at], bytes[at + 1], bytes[at + 2], bytes[at + 3])
 }
 
-fn read_pins(middle: &[u8], j: usize) -> [u32; 4]
-    requires { ⌜ 20 * j + 20 ≤ length (now middle) ⌝ }
-    ensures { λ r. ⌜ r ≡ recordPins (now (middle .entry)) j ⌝ }
+// A number of two bytes as a count.
+fn count(bytes: &[u8], at: usize) -> usize
+    requires { ⌜ at + 2 ≤ length (now bytes) ⌝ }
+    ensures { λ r. ⌜ (r ≡ u16At (now (bytes .entry)) at) × (r < 65_536) ⌝ }
+{
+    area::index(two_bytes(bytes, at))
+}
+
+fn four_numbers(bytes: &[u8], at: usize) -> [u32; 4]
+    requires { ⌜ at + 8 ≤ length (now bytes) ⌝ }
+    ensures { λ r. ⌜ r ≡ fourNumbers (now (bytes .entry)) at ⌝ }
 {
     [
-        two_bytes(middle, 20 * j + 4),
-        two_bytes(middle, 20 * j + 6),
-        two_bytes(middle, 20 * j + 8),
-        two_bytes(middle, 20 * j + 10),
+        two_bytes(bytes, at),
+        two_bytes(bytes, at + 2),
+        two_bytes(bytes, at + 4),
+        two_bytes(bytes, at + 6),
     ]
 }
 
-fn read_field(middle: &[u8], j: usize) -> [u8; 8]
-    requires { ⌜ 20 * j + 20 ≤ length (now middle) ⌝ }
-    ensures { λ r. ⌜ r ≡ recordField (now (middle .entry)) j ⌝ }
+fn eight_bytes(bytes: &[u8], at: usize) -> [u8; 8]
+    requires { ⌜ at + 8 ≤ length (now bytes) ⌝ }
+    ensures { λ r. ⌜ r ≡ eightBytes (now (bytes .entry)) at ⌝ }
 {
     [
-        middle[20 * j + 12],
-        middle[20 * j + 13],
-        middle[20 * j + 14],
-        middle[20 * j + 15],
-        middle[20 * j + 16],
-        middle[20 * j + 17],
-        middle[20 * j + 18],
-        middle[20 * j + 19],
+        bytes[at],
+        bytes[at + 1],
+        bytes[at + 2],
+        bytes[at + 3],
+        bytes[at + 4],
+        bytes[at + 5],
+        bytes[at + 6],
+        bytes[at + 7],
     ]
 }
 
-// Gate record j of an image's middle.
-fn read_gate(middle: &[u8], j: usize) -> Gate
-    requires { ⌜ 20 * j + 20 ≤ length (now middle) ⌝ }
-    ensures { λ r. ⌜ r ≡ gateRecord (now (middle .entry)) j ⌝ }
-{
-    let pins = read_pins(middle, j);
-    let field = read_field(middle, j);
-    Gate {
-        count: wide(middle[20 * j]),
-        kind: middle[20 * j + 1],
-        table: two_bytes(middle, 20 * j + 2),
-        pins: pins,
-        field: field,
-    }
-}
-
-// Eight words from `base` on: the head of an area, or a gate.
-fn write_eight(words: &mut [u32], base: usize, values: [u32; 8])
-    requires { ⌜ base + 8 ≤ length (now words) ⌝ }
-    ensures { λ _. ⌜ now (words .exit) ≡ sets (now (words .entry)) base values ⌝ }
+// Stores values from `base` on.
+fn store(words: &mut [u32], base: usize, values: &[u32])
+    requires { ⌜ base + length (now values) ≤ length (now words) ⌝ }
+    ensures { λ _. ⌜ now (words .exit) ≡ sets (now (words .entry)) base (now (values .entry)) ⌝ }
 {
     let mut i = 0;
-    while i < 8 {
+    while i < values.len() {
         words[base + i] = values[i];
         i += 1;
     }
 }
 
-// Gate j: refusals 5, 6 and 7, else its eight words, the figure word 0.
-fn load_gate(middle: &[u8], n: u32, j: usize, words: &mut [u32]) -> Loaded
-    requires { ⌜ 20 * j + 20 ≤ length (now middle) ⌝ }
-    requires { ⌜ 8 * j + 16 ≤ length (now words) ⌝ }
-    requires { ⌜ (n ≤ 12) × (j < 1024) ⌝ }
-    ensures { λ r. ⌜ r ≡ loaded (gateRefusal (now (middle .entry)) n j) ⌝ }
-    ensures { λ r. ⌜ (r ≡ Loaded.Done → now (words .exit) ≡ sets (now (words .entry)) (8 + 8 * j) (gateWords (now (middle .entry)) j)) ⌝ }
+// Gate j: refusals 5, 6 and 7, else its words, the figure word 0.
+fn load_gate(middle: &[u8], inputs: usize, j: usize, words: &mut [u32]) -> Judgement
+    requires { ⌜ recordAt j + recordBytes ≤ length (now middle) ⌝ }
+    requires { ⌜ figureIndex j < length (now words) ⌝ }
+    requires { ⌜ (inputs ≤ mostInputs) × (j < mostGates) ⌝ }
+    ensures { λ r. ⌜ r ≡ gateRefusal (now (middle .entry)) inputs j ⌝ }
+    ensures { λ r. ⌜ (r ≡ Fine → now (words .exit) ≡ sets (now (words .entry)) (gateIndex j) (recordWords (now (middle .entry)) j)) ⌝ }
 {
-    let gate = read_gate(middle, j);
-    let pins = gate.pins;
-    let field = gate.field;
-    if !rules::gate_shape(gate.count, gate.table, pins) {
-        return Loaded::Refused(5, j as u32);
+    let at = RECORD_BYTES * j;
+    let count = chance::wide(middle[at]);
+    let used = area::index(count);
+    let table = two_bytes(middle, at + TABLE);
+    let pins = four_numbers(middle, at + PINS);
+    if !rules::gate_shape(used, table, pins) {
+        return Judgement::Refused(refusal::GATE_SHAPE, j as u32);
     }
-    if !rules::used_below(n + j as u32, gate.count, pins) {
-        return Loaded::Refused(6, j as u32);
+    if !rules::used_below(inputs + j, used, pins) {
+        return Judgement::Refused(refusal::GATE_PIN, j as u32);
     }
-    match chance::read_units(gate.kind, field) {
+    match chance::read_units(middle[at + KIND], eight_bytes(middle, at + FIELD)) {
         FlipUnits::Units(units) => {
-            write_eight(
-                words,
-                8 + 8 * j,
-                [
-                    gate.count,
-                    gate.table,
-                    pins[0],
-                    pins[1],
-                    pins[2],
-                    pins[3],
-                    units,
-                    0,
-                ],
-            );
-            Loaded::Done
+            let gate = [count, table, pins[0], pins[1], pins[2], pins[3], units, 0];
+            store(words, area::gate_index(j), &gate[..]);
+            Judgement::Fine
         }
-        FlipUnits::Refused => Loaded::Refused(7, j as u32),
+        FlipUnits::Refused => Judgement::Refused(refusal::GATE_FLIP, j as u32),
     }
 }
 
 // Each gate in turn.
-fn load_gates(middle: &[u8], n: u32, gates: usize, words: &mut [u32]) -> Loaded
-    requires { ⌜ 20 * gates ≤ length (now middle) ⌝ }
-    requires { ⌜ 8 + 8 * gates ≤ length (now words) ⌝ }
-    requires { ⌜ (n ≤ 12) × (gates ≤ 1024) ⌝ }
-    ensures { λ r. ⌜ r ≡ loaded (lowest (gateRefusal (now (middle .entry)) n) gates) ⌝ }
-    ensures { λ r. ⌜ (r ≡ Loaded.Done → now (words .exit) ≡ sets (now (words .entry)) 8 (joined (gateWords (now (middle .entry))) gates)) ⌝ }
+fn load_gates(middle: &[u8], inputs: usize, gates: usize, words: &mut [u32]) -> Judgement
+    requires { ⌜ recordAt gates ≤ length (now middle) ⌝ }
+    requires { ⌜ outputsIndex gates ≤ length (now words) ⌝ }
+    requires { ⌜ (inputs ≤ mostInputs) × (gates ≤ mostGates) ⌝ }
+    ensures { λ r. ⌜ r ≡ lowest (gateRefusal (now (middle .entry)) inputs) gates ⌝ }
+    ensures { λ r. ⌜ (r ≡ Fine → now (words .exit) ≡ sets (now (words .entry)) headWords (gateList (now (middle .entry)) gates)) ⌝ }
 {
     let mut j = 0;
     while j < gates {
-        match load_gate(middle, n, j, words) {
-            Loaded::Done => {
+        match load_gate(middle, inputs, j, words) {
+            Judgement::Fine => {
                 j += 1;
             }
-            Loaded::Refused(number, place) => {
-                return Loaded::Refused(number, place);
+            Judgement::Refused(number, place) => {
+                return Judgement::Refused(number, place);
             }
         }
     }
-    Loaded::Done
+    Judgement::Fine
 }
 
 // Output k: refusal 8, else its word.
-fn load_output(middle: &[u8], n: u32, gates: usize, k: usize, words: &mut [u32]) -> Loaded
-    requires { ⌜ 20 * gates + 2 * k + 2 ≤ length (now middle) ⌝ }
-    requires { ⌜ 8 + 8 * gates + k < length (now words) ⌝ }
-    requires { ⌜ (n ≤ 12) × (gates ≤ 1024) × (k < 64) ⌝ }
-    ensures { λ r. ⌜ r ≡ loaded (outputRefusal (now (middle .entry)) n gates k) ⌝ }
-    ensures { λ r. ⌜ (r ≡ Loaded.Done → now (words .exit) ≡ sets (now (words .entry)) (8 + 8 * gates + k) (outputWord (now (middle .entry)) gates k)) ⌝ }
+fn load_output(middle: &[u8], inputs: usize, gates: usize, k: usize, words: &mut [u32]) -> Judgement
+    requires { ⌜ middleBytes gates k + outputBytes ≤ length (now middle) ⌝ }
+    requires { ⌜ outputsIndex gates + k < length (now words) ⌝ }
+    requires { ⌜ (inputs ≤ mostInputs) × (gates ≤ mostGates) × (k < mostOutputs) ⌝ }
+    ensures { λ r. ⌜ r ≡ outputRefusal (now (middle .entry)) inputs gates k ⌝ }
+    ensures { λ r. ⌜ (r ≡ Fine → now (words .exit) ≡ sets (now (words .entry)) (outputsIndex gates + k) (outputWord (now (middle .entry)) gates k)) ⌝ }
 {
-    let source = two_bytes(middle, 20 * gates + 2 * k);
-    if source >= n + gates as u32 {
-        return Loaded::Refused(8, k as u32);
+    let source = two_bytes(middle, RECORD_BYTES * gates + OUTPUT_BYTES * k);
+    if area::index(source) >= inputs + gates {
+        return Judgement::Refused(refusal::OUTPUT, k as u32);
     }
-    words[8 + 8 * gates + k] = source;
-    Loaded::Done
+    words[area::outputs_index(gates) + k] = source;
+    Judgement::Fine
 }
 
 // Each output in turn.
-fn load_outputs(middle: &[u8], n: u32, gates: usize, outputs: usize, words: &mut [u32]) -> Loaded
-    requires { ⌜ 20 * gates + 2 * outputs ≤ length (now middle) ⌝ }
-    requires { ⌜ 8 + 8 * gates + outputs ≤ length (now words) ⌝ }
-    requires { ⌜ (n ≤ 12) × (gates ≤ 1024) × (outputs ≤ 64) ⌝ }
-    ensures { λ r. ⌜ r ≡ loaded (lowest (outputRefusal (now (middle .entry)) n gates) outputs) ⌝ }
-    ensures { λ r. ⌜ (r ≡ Loaded.Done → now (words .exit) ≡ sets (now (words .entry)) (8 + 8 * gates) (joined (outputWord (now (middle .entry)) gates) outputs)) ⌝ }
+fn load_outputs(
+    middle: &[u8],
+    inputs: usize,
+    gates: usize,
+    outputs: usize,
+    words: &mut [u32],
+) -> Judgement
+    requires { ⌜ middleBytes gates outputs ≤ length (now middle) ⌝ }
+    requires { ⌜ needed gates outputs ≤ length (now words) ⌝ }
+    requires { ⌜ (inputs ≤ mostInputs) × (gates ≤ mostGates) × (outputs ≤ mostOutputs) ⌝ }
+    ensures { λ r. ⌜ r ≡ lowest (outputRefusal (now (middle .entry)) inputs gates) outputs ⌝ }
+    ensures { λ r. ⌜ (r ≡ Fine → now (words .exit) ≡ sets (now (words .entry)) (outputsIndex gates) (outputList (now (middle .entry)) gates outputs)) ⌝ }
 {
     let mut k = 0;
     while k < outputs {
-        match load_output(middle, n, gates, k, words) {
-            Loaded::Done => {
+        match load_output(middle, inputs, gates, k, words) {
+            Judgement::Fine => {
                 k += 1;
             }
-            Loaded::Refused(number, place) => {
-                return Loaded::Refused(number, place);
+            Judgement::Refused(number, place) => {
+                return Judgement::Refused(number, place);
             }
         }
     }
-    Loaded::Done
+    Judgement::Fine
 }
 
-// The gates and the outputs of an image's middle, after the head of the area.
-fn load_middle(middle: &[u8], n: u32, gates: u32, outputs: u32, words: &mut [u32]) -> Loaded
-    requires { ⌜ 20 * gates + 2 * outputs ≤ length (now middle) ⌝ }
-    requires { ⌜ 8264 ≤ length (now words) ⌝ }
-    requires { ⌜ (n ≤ 12) × (gates ≤ 1024) × (outputs ≤ 64) ⌝ }
-    ensures { λ r. ⌜ r ≡ loaded (middleRefusal (now (middle .entry)) n gates outputs) ⌝ }
-    ensures { λ r. ⌜ (r ≡ Loaded.Done → now (words .exit) ≡ sets (now (words .entry)) 0 (middleWords (now (middle .entry)) n gates outputs)) ⌝ }
+// The head of the area, and after it the gates and the outputs of an image's middle.
+fn load_middle(
+    middle: &[u8],
+    inputs: usize,
+    gates: usize,
+    outputs: usize,
+    words: &mut [u32],
+) -> Judgement
+    requires { ⌜ middleBytes gates outputs ≤ length (now middle) ⌝ }
+    requires { ⌜ mostWords ≤ length (now words) ⌝ }
+    requires { ⌜ (inputs ≤ mostInputs) × (gates ≤ mostGates) × (outputs ≤ mostOutputs) ⌝ }
+    ensures { λ r. ⌜ r ≡ middleRefusal (now (middle .entry)) inputs gates outputs ⌝ }
+    ensures { λ r. ⌜ (r ≡ Fine → now (words .exit) ≡ sets (now (words .entry)) 0 (middleWords (now (middle .entry)) inputs gates outputs)) ⌝ }
 {
-    write_eight(words, 0, [n, gates, outputs, 0, 0, 0, 0, 0]);
-    match load_gates(middle, n, gates as usize, words) {
-        Loaded::Done => load_outputs(middle, n, gates as usize, outputs as usize, words),
-        Loaded::Refused(number, place) => Loaded::Refused(number, place),
+    let head = [inputs as u32, gates as u32, outputs as u32, 0, 0, 0, 0, 0];
+    store(words, 0, &head[..]);
+    match load_gates(middle, inputs, gates, words) {
+        Judgement::Fine => load_outputs(middle, inputs, gates, outputs, words),
+        Judgement::Refused(number, place) => Judgement::Refused(number, place),
     }
 }
 
-// Whether the way back from the trailer at `at` is that of all records and output words, and stays inside the image.
-fn back_right(back: u32, gates: u32, outputs: u32, at: u32) -> bool
-    requires { ⌜ (gates < 65_536) × (outputs < 65_536) ⌝ }
-    ensures { λ r. ⌜ r ≡ (eqb back (20 * gates + 2 * outputs) && leb back at) ⌝ }
+// Refusal 1 of an image that has a trailer.
+fn length_right(image: &[u8]) -> bool
+    requires { ⌜ trailerBytes ≤ length (now image) ⌝ }
+    ensures { λ r. ⌜ r ≡ lengthRight (now (image .entry)) ⌝ }
 {
-    if back != 20 * gates + 2 * outputs {
+    let length = image.len();
+    if length > LONGEST_IMAGE {
+        return false;
+    }
+    area::index(four_bytes(image, length - TRAILER_BYTES + TOTAL)) == length
+}
+
+// Refusal 4.
+fn back_right(image: &[u8]) -> bool
+    requires { ⌜ trailerBytes ≤ length (now image) ⌝ }
+    ensures { λ r. ⌜ r ≡ backRight (now (image .entry)) ⌝ }
+{
+    let at = image.len() - TRAILER_BYTES;
+    let back = area::index(four_bytes(image, at + BACK));
+    let gates = count(image, at + GATES);
+    let outputs = count(image, at + OUTPUTS);
+    if back != RECORD_BYTES * gates + OUTPUT_BYTES * outputs {
         return false;
     }
     back <= at
 }
 
-// Refusals 1 to 4; nothing is read of an image whose length is out of range.
-fn judge_trailer(image: &[u8]) -> Loaded
-    ensures { λ r. ⌜ r ≡ loaded (trailerRefusal (now (image .entry))) ⌝ }
+// Refusals 1 to 4; nothing is read of an image that is too short for a trailer.
+fn judge_trailer(image: &[u8]) -> Judgement
+    ensures { λ r. ⌜ r ≡ trailerRefusal (now (image .entry)) ⌝ }
 {
-    let length = image.len();
-    if length < 16 {
-        return Loaded::Refused(1, 0);
+    if image.len() < TRAILER_BYTES {
+        return Judgement::Refused(refusal::LENGTH, 0);
     }
-    if length > 32_768 {
-        return Loaded::Refused(1, 0);
+    if !length_right(image) {
+        return Judgement::Refused(refusal::LENGTH, 0);
     }
-    let at = length - 16;
-    if four_bytes(image, at + 12) != length as u32 {
-        return Loaded::Refused(1, 0);
+    let at = image.len() - TRAILER_BYTES;
+    if two_bytes(image, at + FORMAT) != KNOWN_FORMAT {
+        return Judgement::Refused(refusal::FORMAT, 0);
     }
-    if two_bytes(image, at + 6) != 1 {
-        return Loaded::Refused(2, 0);
+    let inputs = count(image, at);
+    let gates = count(image, at + GATES);
+    if !rules::counts_in_range(inputs, gates, count(image, at + OUTPUTS)) {
+        return Judgement::Refused(refusal::COUNTS, 0);
     }
-    let gates = two_bytes(image, at + 2);
-    let outputs = two_bytes(image, at + 4);
-    if !rules::counts_in_range(two_bytes(image, at), gates, outputs) {
-        return Loaded::Refused(3, 0);
+    if !back_right(image) {
+        return Judgement::Refused(refusal::BACK, 0);
     }
-    if !back_right(four_bytes(image, at + 8), gates, outputs, at as u32) {
-        return Loaded::Refused(4, 0);
-    }
-    Loaded::Done
+    Judgement::Fine
 }
 
 // The netlist of an image whose trailer is right. The middle is handed on as a part of the image.
-fn load_netlist(image: &[u8], words: &mut [u32]) -> Loaded
+fn load_netlist(image: &[u8], words: &mut [u32]) -> Judgement
     requires { ⌜ TrailerRight (now image) ⌝ }
-    requires { ⌜ 8264 ≤ length (now words) ⌝ }
-    ensures { λ r. ⌜ r ≡ loaded (middleRefusal (middle (now (image .entry))) (imageInputs (now (image .entry))) (imageGates (now (image .entry))) (imageOutputs (now (image .entry)))) ⌝ }
-    ensures { λ r. ⌜ (r ≡ Loaded.Done → now (words .exit) ≡ sets (now (words .entry)) 0 (imageWords (now (image .entry)))) ⌝ }
+    requires { ⌜ mostWords ≤ length (now words) ⌝ }
+    ensures { λ r. ⌜ r ≡ netlistRefusal (now (image .entry)) ⌝ }
+    ensures { λ r. ⌜ (r ≡ Fine → now (words .exit) ≡ sets (now (words .entry)) 0 (imageWords (now (image .entry)))) ⌝ }
 {
-    let at = image.len() - 16;
-    let n = two_bytes(image, at);
-    let gates = two_bytes(image, at + 2);
-    let outputs = two_bytes(image, at + 4);
-    let start = at - four_bytes(image, at + 8) as usize;
-    load_middle(&image[start..at], n, gates, outputs, words)
+    let at = image.len() - TRAILER_BYTES;
+    let inputs = count(image, at);
+    let gates = count(image, at + GATES);
+    let outputs = count(image, at + OUTPUTS);
+    let start = at - area::index(four_bytes(image, at + BACK));
+    load_middle(&image[start..at], inputs, gates, outputs, words)
 }
 
 // Reads an image, whatever its bytes, into the words of a work area whose figures are not worked out. The caller lends words enough for
 // every netlist; where the image is refused they hold nothing of use.
-pub fn load(image: &[u8], words: &mut [u32]) -> Loaded
-    requires { ⌜ 8264 ≤ length (now words) ⌝ }
-    ensures { λ r. ⌜ r ≡ loaded (imageRefusal (now (image .entry))) ⌝ }
-    ensures { λ r. ⌜ (imageRefusal (now (image .entry)) ≡ Fine → now (words .exit) ≡ imageWords (now (image .entry)) ++ drop (8 + 8 * imageGates (now (image .entry)) + imageOutputs (now (image .entry))) (now (words .entry))) ⌝ }
+pub fn load(image: &[u8], words: &mut [u32]) -> Judgement
+    requires { ⌜ mostWords ≤ length (now words) ⌝ }
+    ensures { λ r. ⌜ r ≡ imageRefusal (now (image .entry)) ⌝ }
+    ensures { λ r. ⌜ (imageRefusal (now (image .entry)) ≡ Fine → now (words .exit) ≡ imageOver (now (image .entry)) (now (words .entry))) ⌝ }
 {
     match judge_trailer(image) {
-        Loaded::Done => load_netlist(image, words),
-        Loaded::Refused(number, place) => Loaded::Refused(number, place),
+        Judgement::Fine => load_netlist(image, words),
+        Judgement::Refused(number, place) => Judgement::Refused(number, place),
     }
 }

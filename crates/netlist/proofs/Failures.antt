@@ -106,10 +106,10 @@ start-at-most u true = omega arith
 start-at-most u false = le-refl u
 
 -- a gate's figure is at most u if its flip and the failures of its pins are
-pub figure-at-most : (u table p : ℕ) → 0 < u → p ≤ u → (vs : List Bool) (fs : List ℕ) → length vs ≡ length fs → ((i : ℕ) → getD fs i 0 ≤ u)
+pub figure-at-most : (u p table : ℕ) → 0 < u → p ≤ u → (vs : List Bool) (fs : List ℕ) → length vs ≡ length fs → ((i : ℕ) → getD fs i 0 ≤ u)
     → gateFailure u table vs fs p ≤ u
 unfolding gateFailure gateStep difference
-figure-at-most u table p posu hp vs fs same hf =
+figure-at-most u p table posu hp vs fs same hf =
     let m = foldPins u fs (startValues u table vs) in
     let fold : m ≡ foldOver u fs (difference u table vs) = start-fold u table vs fs same in
     let small : foldOver u fs (difference u table vs) ≤ u
@@ -121,8 +121,8 @@ pub gate-at-most : (u d : ℕ) → 0 < u → 0 < d → (vs : List Bool) (g : Gat
 gate-at-most u d posu posd vs g hc fs hf =
     figure-at-most
     u
-    (g .table)
     (toUnits u d (g .chance))
+    (g .table)
     posu
     (units-at-most u d (g .chance) posd hc)
     (pinValues vs (g .pins))

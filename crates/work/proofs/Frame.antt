@@ -10,6 +10,7 @@ use lib.Seq.{getD-set-same, getD-set-other, ext-getD}
 use Rattle.lists.proofs.Parts.{part-at}
 use Rattle.area.specs.Layout.{headWords, inputs, gates, outputs, patternIndex, pattern, reliabilityIndex, reliabilityWord}
 use Rattle.area.specs.Layout.{gateIndex, pinCount, table, pinsIndex, pins, flipIndex, flip, figureIndex, figure, usedPins, outputsIndex, outputWords, needed}
+use Rattle.area.proofs.Words.{pin-at}
 use Rattle.work.specs.Work.{gateFigure, workGate, workGates, reliabilityNow, workReliability, workAll, readsMarked, workIf, markIf, workMarked}
 use Rattle.work.specs.Work.{markOf, invertBit, toggleWords, setWords}
 
@@ -173,19 +174,15 @@ module _ (ws vs : List ℕ) (same : SameFrame ws vs) where
   gate-word j i from to = same .kept i (gate-frame (gates ws) j i from to)
 
   pub same-pin-count : (j : ℕ) → pinCount vs j ≡ pinCount ws j
-  same-pin-count j = gate-word j (gateIndex j) (omega arith) (omega arith)
+  same-pin-count j = gate-word j _ (omega arith) (omega arith)
 
   pub same-table : (j : ℕ) → table vs j ≡ table ws j
-  same-table j = gate-word j (gateIndex j + 1) (omega arith) (omega arith)
+  same-table j = gate-word j _ (omega arith) (omega arith)
 
   pub same-pins : (j : ℕ) → pins vs j ≡ pins ws j
   same-pins j =
-      cc (
-        gate-word j (pinsIndex j) (omega arith) (omega arith),
-        gate-word j (pinsIndex j + 1) (omega arith) (omega arith),
-        gate-word j (pinsIndex j + 2) (omega arith) (omega arith),
-        gate-word j (pinsIndex j + 3) (omega arith) (omega arith),
-      )
+      ext-getD 0 (pins vs j) (pins ws j) refl
+      (λ i l. sym (pin-at vs j i l) ∙ gate-word j (pinsIndex j + i) (omega arith) (omega arith) ∙ pin-at ws j i l)
 
   pub same-used-pins : (j : ℕ) → usedPins vs j ≡ usedPins ws j
   same-used-pins j = ap₂ take (same-pin-count j) (same-pins j)

@@ -28,7 +28,7 @@ use Rattle.work.proofs.Pattern.{invert-fits}
 
 -- ---- areas of one frame: netlist and reserved words are the same, the figures are to be shown
 
-net-same : (ws vs : List ℕ) → NetSound ws → SameFrame ws vs → NetSound vs
+pub net-same : (ws vs : List ℕ) → NetSound ws → SameFrame ws vs → NetSound vs
 net-same ws vs net same =
     let n = same-inputs ws vs same in
     let g = same-gates ws vs same in
@@ -203,9 +203,6 @@ workable-set ws g units workable l h =
 
 pub sound-store-pattern : (ws : List ℕ) (q : ℕ) → Sound ws → q < 2 ^ inputs ws → Sound (set ws patternIndex q)
 sound-store-pattern ws q sound h = sound-same ws _ sound (same-store-pattern ws q) (workable-store-pattern ws q (sound .workable) h)
-
-pub sound-store-flip : (ws : List ℕ) (g units : ℕ) → Sound ws → g < gates ws → units ≤ largestFlip → Sound (set ws (flipIndex g) units)
-sound-store-flip ws g units sound l h = sound-same ws _ sound (same-store-flip ws g units l) (workable-store-flip ws g units (sound .workable) l h)
 
 pub sound-work-all : (ws : List ℕ) → Sound ws → Sound (workAll ws)
 sound-work-all ws sound = sound-same ws _ sound (same-work-all ws) (workable-work-all ws (sound .workable))

@@ -26,4 +26,3 @@ pub mod random;
 pub mod sheet;
 #[cfg(feature = "self_test")]
 pub mod stand_in;
-pub mod text;

@@ -3,7 +3,8 @@ use Prim.Native.Nat.{ℕ}
 use mathlib.Core.Path.{_≡_, refl, sym, ap, _∙_}
 use native.Mathlib.Omega.{arith}
 use Rattle.area.specs.Layout.{inputs}
-use Rattle.calls.specs.Judged.{weightsJudgement, averageJudgement}
+use Rattle.calls.specs.Judgements.{weightsJudgement}
+use Rattle.calls.specs.Judged.{averageJudgement}
 use Rattle.average.specs.Weights.{weightsAnswer}
 use Rattle.average.specs.declared.WeightsJudged.{WeightsJudged}
 use Rattle.bench.proofs.Judged.{past-area, stopped, passed}

@@ -2,7 +2,8 @@
 use mathlib.Core.Path.{_≡_, refl, _∙_}
 use native.Mathlib.Omega.{arith}
 use Rattle.area.specs.Layout.{gates}
-use Rattle.calls.specs.Judged.{named, gateJudgement}
+use Rattle.calls.specs.Judgements.{named}
+use Rattle.calls.specs.Judged.{gateJudgement}
 use Rattle.bench.proofs.Judged.{past-area, stopped, passed, named-below, named-past}
 use borrow.Author.Needs.{needs}
 use Rattle.bench.proofs.read_gate.Statement.{statement}

@@ -4,8 +4,9 @@ use native.Mathlib.Omega.{arith}
 use Rattle.area.specs.Layout.{gates}
 use Rattle.refusal.specs.declared.Judgement.{Judgement}
 use Rattle.refusal.specs.Judgement.{otherwise}
-use Rattle.calls.specs.Judged.{named, flipJudgement, setJudgement}
-use Rattle.calls.specs.Calls.{flipUnits}
+use Rattle.calls.specs.Judgements.{named, flipJudgement}
+use Rattle.calls.specs.Judged.{setJudgement}
+use Rattle.chance.specs.Flip.{flipUnits}
 use mathlib.Core.Bool.{true, false}
 use Rattle.work.specs.Work.{setWords}
 use Rattle.chance.proofs.Laws.{units-accepted, units-refused, flip-units-at-most}

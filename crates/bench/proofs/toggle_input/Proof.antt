@@ -2,7 +2,8 @@
 use mathlib.Core.Path.{_≡_, refl, _∙_}
 use native.Mathlib.Omega.{arith}
 use Rattle.area.specs.Layout.{inputs}
-use Rattle.calls.specs.Judged.{named, toggleJudgement}
+use Rattle.calls.specs.Judgements.{named}
+use Rattle.calls.specs.Judged.{toggleJudgement}
 use Rattle.bench.proofs.Judged.{past-area, stopped, passed, named-below, named-past}
 use borrow.Author.Needs.{needs}
 use Rattle.bench.proofs.toggle_input.Statement.{statement}

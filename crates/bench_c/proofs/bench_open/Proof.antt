@@ -2,7 +2,7 @@
 use mathlib.Core.Path.{refl, sym, _∙_}
 use lib.ListN.{length}
 use Rattle.calls.specs.Calls.{openLive}
-use Rattle.calls.specs.Judged.{openJudgement}
+use Rattle.calls.specs.Judgements.{openJudgement}
 use Rattle.bench_c.proofs.Answered.{open-told}
 use borrow.Author.Needs.{needs}
 use Rattle.bench_c.proofs.bench_open.Statement.{statement}

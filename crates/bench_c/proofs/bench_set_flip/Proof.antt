@@ -3,7 +3,8 @@ use Prim.Native.Nat.{ℕ}
 use mathlib.Core.List.{List, [], _∷_}
 use Rattle.work.specs.Work.{setWords}
 use Rattle.calls.specs.Judged.{setJudgement}
-use Rattle.calls.specs.Calls.{leftBy, flipUnits}
+use Rattle.refusal.specs.Judgement.{unlessRefused}
+use Rattle.chance.specs.Flip.{flipUnits}
 use Rattle.bench.specs.Answers.{flipSet}
 use Rattle.bench_c.specs.Codes.{fieldBytes}
 use mathlib.Core.Path.{_≡_, refl, sym, ap, _∙_}

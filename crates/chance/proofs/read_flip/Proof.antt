@@ -57,7 +57,8 @@ unfolding readFlip flipAccepted flipOf
 returns-3 c =
     let field = c .before .before .before .before .args .field in
     c .read-strike .ensures
-    ∙ ap (λ (w : ℕ). readIf (inRange (strikeOf (c .before .before .first-half .result) w)) (strikeOf (c .before .before .first-half .result) w)) (c .before .second-half .ensures)
+    ∙ ap (λ (w : ℕ). readIf (inRange (strikeOf (c .before .before .first-half .result) w)) (strikeOf (c .before .before .first-half .result) w))
+    (c .before .second-half .ensures)
     ∙ ap (λ (s : ℕ). readIf (inRange (strikeOf s (secondHalf field))) (strikeOf s (secondHalf field))) (c .before .before .first-half .ensures)
     ∙ ap (λ (kind : ℕ). readFlip kind field) (sym (c .before .before .before .match .keys3))
 

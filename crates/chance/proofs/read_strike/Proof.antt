@@ -38,7 +38,8 @@ is-chance-requires-2 c κs = search needs
 returns-2 : tie.Need-returns-2
 returns-2 c =
     let a = c .before .before .before .before .args in
-    answer (a .chance) (a .window) true false (first (c .before .before .before) ∙ not-false _ (c .before .before .if1 .left)) (second (c .before) ∙ not-true _ (c .if2 .taken))
+    answer (a .chance) (a .window) true false (first (c .before .before .before) ∙ not-false _ (c .before .before .if1 .left))
+    (second (c .before) ∙ not-true _ (c .if2 .taken))
 
 -- past both tests
 first-held : (c : tie.Else2) → fromZeroToOne (ofBits binary32 (c .before .before .before .before .args .chance)) ≡ true

@@ -7,7 +7,7 @@ use Rattle.rounding.specs.Rounding.{unitsInOne, toUnits}
 use Rattle.chance.specs.declared.Flip.{Flip}
 use Rattle.chance.specs.declared.FlipUnits.the-variants.{Units}
 use Rattle.chance.specs.Number.{chanceScale}
-use Rattle.chance.specs.Flip.{inRange, flipOf, flipAccepted, chanceOf, flipChance, unitsIf, readUnits}
+use Rattle.chance.specs.Flip.{inRange, flipOf, flipAccepted, chanceOf, flipChance, flipUnits, unitsIf, readUnits}
 use Rattle.chance.proofs.Laws.{accepted-in-range, read-accepted, read-refused}
 use Rattle.chance.proofs.read_units.Statement.{statement}
 use Rattle.chance.proofs.read_units.Tie as tie
@@ -35,7 +35,7 @@ enum-told : tie.Need-enum-told
 enum-told c = search needs
 
 returns : tie.Need-returns
-unfolding readUnits flipChance
+unfolding readUnits flipUnits flipChance
 returns c =
     let a = c .before .before .before .before .before .args in
     let kept : c .units .result ≡ toUnits unitsInOne chanceScale (chanceOf (flipOf (a .kind) (a .field))) =
@@ -47,7 +47,7 @@ returns-2 : tie.Need-returns-2
 unfolding readUnits
 returns-2 c =
     let a = c .before .before .before .args in
-    sym (ap (λ (b : Bool). unitsIf b (toUnits unitsInOne chanceScale (flipChance (a .kind) (a .field))))
+    sym (ap (λ (b : Bool). unitsIf b (flipUnits (a .kind) (a .field)))
     (read-refused (a .kind) (a .field) (sym (c .before .before .read-flip .ensures) ∙ c .enum-told .given .1)))
 
 pub read-units-spec : {M : Type 1} → statement M

@@ -37,7 +37,8 @@ known : (c : tie.After-struct-known2) →
     Known (mul binary64 (s .chance) (s .window)) (num (s .chance) * num (s .window)) (den (s .chance) * den (s .window)) 1
 known c =
     let s = c .before .before .args .strike in
-    struck (s .chance) (s .window) (c .before .struct-known .given .0) (c .struct-known2 .given .1 .0) (ranges (c .before .before) .0) (ranges (c .before .before) .1)
+    struck (s .chance) (s .window) (c .before .struct-known .given .0) (c .struct-known2 .given .1 .0) (ranges (c .before .before) .0)
+    (ranges (c .before .before) .1)
 
 nearest-units-requires : tie.Need-nearest-units-requires
 nearest-units-requires c κs =

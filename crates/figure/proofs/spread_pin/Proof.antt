@@ -18,6 +18,11 @@ abbrev μ-loop : tie.MeasureT-loop
 μ-loop used words bits pin indices bit right wrong spread₀ i₀ spread i =
     used - i
 
+-- a pin that is right adds at most its bit
+pin-adds : (s : tie.Start Inv-loop μ-loop)
+    → getD (s .args .words .now) (s .args .pin) 0 % 2 * getD (s .args .bits .now) (s .args .pin) 0 ≤ getD (s .args .bits .now) (s .args .pin) 0
+pin-adds s = added (getD (s .args .words .now) (s .args .pin) 0) (getD (s .args .bits .now) (s .args .pin) 0)
+
 mul-bit : tie.Need-mul-bit Inv-loop μ-loop
 mul-bit c = search needs
 
@@ -31,10 +36,12 @@ element-copy-out-right : tie.Need-element-copy-out-right Inv-loop μ-loop
 element-copy-out-right c = search needs
 
 mul-right-2 : tie.Need-mul-right-2 Inv-loop μ-loop
-mul-right-2 c = omega (arith, c .before .before .pre .1 0 (omega arith), added (getD (c .before .before .args .words .now) (c .before .before .args .pin) 0) (getD (c .before .before .args .bits .now) (c .before .before .args .pin) 0))
+mul-right-2 c =
+    let s = c .before .before in
+    omega (arith, s .pre .1 0 (omega arith), pin-adds s)
 
 sub-wrong : tie.Need-sub-wrong Inv-loop μ-loop
-sub-wrong c = added (getD (c .before .before .args .words .now) (c .before .before .args .pin) 0) (getD (c .before .before .args .bits .now) (c .before .before .args .pin) 0)
+sub-wrong c = pin-adds (c .before .before)
 
 loop-holds : tie.Need-loop-holds Inv-loop μ-loop
 loop-holds c = (omega arith, refl, refl)
@@ -47,8 +54,8 @@ array-read-x c = search needs
 
 add-spread : tie.Need-add-spread Inv-loop μ-loop
 add-spread c =
-    let a = c .before .before .before .before .args in
-    omega (arith, c .before .before .before .before .pre .1 (c .before .loop .i) (omega arith), added (getD (a .words .now) (a .pin) 0) (getD (a .bits .now) (a .pin) 0))
+    let s = c .before .before .before .before in
+    omega (arith, s .pre .1 (c .before .loop .i) (omega arith), pin-adds s)
 
 mul-spread : tie.Need-mul-spread Inv-loop μ-loop
 mul-spread c = search needs
@@ -61,8 +68,8 @@ array-write-spread c = search needs
 
 add-spread-2 : tie.Need-add-spread-2 Inv-loop μ-loop
 add-spread-2 c =
-    let a = c .before .before .before .before .args in
-    omega (arith, c .before .before .before .before .pre .1 (c .before .loop .i) (omega arith), added (getD (a .words .now) (a .pin) 0) (getD (a .bits .now) (a .pin) 0))
+    let s = c .before .before .before .before in
+    omega (arith, s .pre .1 (c .before .loop .i) (omega arith), pin-adds s)
 
 mul-spread-3 : tie.Need-mul-spread-3 Inv-loop μ-loop
 mul-spread-3 c = search needs

@@ -19,7 +19,12 @@ abbrev entry : tie.After-spread-pin4 → tie.Start
 entry c = c .before .before .before .before .before .before
 
 spread : (c : tie.After-spread-pin4) → take 16 (c .spread-pin4 .result) ≡ spreadPins (pins (entry c) 0) (entry c .args .start ∷ [])
-spread c = rw (c .spread-pin4 .ensures, c .before .spread-pin3 .ensures, c .before .before .spread-pin2 .ensures, c .before .before .before .spread-pin .ensures)
+spread c = rw (
+  c .spread-pin4 .ensures,
+  c .before .spread-pin3 .ensures,
+  c .before .before .spread-pin2 .ensures,
+  c .before .before .before .spread-pin .ensures,
+)
 
 spread-pin-requires : tie.Need-spread-pin-requires
 spread-pin-requires c κs =
@@ -33,13 +38,23 @@ spread-pin-requires-2 c κs =
 
 spread-pin-requires-3 : tie.Need-spread-pin-requires-3
 spread-pin-requires-3 c κs =
-    let s = c .before .before .before .before in
-    (omega arith, spread-room (s .args .start) (pins s 2) 4 (c .spread-pin2 .result) (rw (c .spread-pin2 .ensures, c .before .spread-pin .ensures)) _ (omega arith))
+    let s = c .before .before .before .before in (
+      omega arith,
+      spread-room (s .args .start) (pins s 2) 4 (c .spread-pin2 .result)
+          (rw (c .spread-pin2 .ensures, c .before .spread-pin .ensures))
+          _
+          (omega arith),
+    )
 
 spread-pin-requires-4 : tie.Need-spread-pin-requires-4
 spread-pin-requires-4 c κs =
-    let s = c .before .before .before .before .before in
-    (omega arith, spread-room (s .args .start) (pins s 1) 8 (c .spread-pin3 .result) (rw (c .spread-pin3 .ensures, c .before .spread-pin2 .ensures, c .before .before .spread-pin .ensures)) _ (omega arith))
+    let s = c .before .before .before .before .before in (
+      omega arith,
+      spread-room (s .args .start) (pins s 1) 8 (c .spread-pin3 .result)
+          (rw (c .spread-pin3 .ensures, c .before .spread-pin2 .ensures, c .before .before .spread-pin .ensures))
+          _
+          (omega arith),
+    )
 
 start-values-requires : tie.Need-start-values-requires
 start-values-requires c κs =
@@ -73,7 +88,13 @@ returns c =
     let s = entry d in
     c .word-of .ensures
     ∙ word-made (s .args .start) (pins s 0) 16 (d .spread-pin4 .result) (spread d) (s .args .table) _ (c .before .fold-step4 .result) (omega arith)
-    (rw (c .before .fold-step4 .ensures .0, c .before .before .fold-step3 .ensures .0, c .before .before .before .fold-step2 .ensures .0, c .before .before .before .before .fold-step .ensures .0, c .before .before .before .before .before .start-values .ensures .0))
+    (rw (
+      c .before .fold-step4 .ensures .0,
+      c .before .before .fold-step3 .ensures .0,
+      c .before .before .before .fold-step2 .ensures .0,
+      c .before .before .before .before .fold-step .ensures .0,
+      c .before .before .before .before .before .start-values .ensures .0,
+    ))
 
 pub word-four-spec : {M : Type 1} → statement M
 word-four-spec =

@@ -33,8 +33,13 @@ spread-pin-requires-2 c κs =
 
 spread-pin-requires-3 : tie.Need-spread-pin-requires-3
 spread-pin-requires-3 c κs =
-    let s = c .before .before .before .before in
-    (omega arith, spread-room (s .args .start) (pins s 1) 4 (c .spread-pin2 .result) (rw (c .spread-pin2 .ensures, c .before .spread-pin .ensures)) _ (omega arith))
+    let s = c .before .before .before .before in (
+      omega arith,
+      spread-room (s .args .start) (pins s 1) 4 (c .spread-pin2 .result)
+          (rw (c .spread-pin2 .ensures, c .before .spread-pin .ensures))
+          _
+          (omega arith),
+    )
 
 start-values-requires : tie.Need-start-values-requires
 start-values-requires c κs =
@@ -65,7 +70,12 @@ returns c =
     let s = entry d in
     c .word-of .ensures
     ∙ word-made (s .args .start) (pins s 0) 8 (d .spread-pin3 .result) (spread d) (s .args .table) _ (c .before .fold-step3 .result) (omega arith)
-    (rw (c .before .fold-step3 .ensures .0, c .before .before .fold-step2 .ensures .0, c .before .before .before .fold-step .ensures .0, c .before .before .before .before .start-values .ensures .0))
+    (rw (
+      c .before .fold-step3 .ensures .0,
+      c .before .before .fold-step2 .ensures .0,
+      c .before .before .before .fold-step .ensures .0,
+      c .before .before .before .before .start-values .ensures .0,
+    ))
 
 pub word-three-spec : {M : Type 1} → statement M
 word-three-spec =

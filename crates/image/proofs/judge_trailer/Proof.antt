@@ -1,43 +1,28 @@
 -- `image::judge_trailer` meets its contract: the first test that fails decides. Assumes nothing.
--- `image::judge_trailer` meets its contract: the first test that fails decides. Assumes nothing.
-use mathlib.Core.Path.{sym, _∙_}
-use lib.ListN.{length}
+use mathlib.Core.Path.{_≡_, sym, _∙_}
 use denote.Ref.{now}
-use borrow.Author.Tests.{lt-leb, le-leb, eq-eqb, ne-eqb, not-true, not-false}
 use borrow.Author.Needs.{needs}
-use Rattle.image.specs.Refusals.{lengthRight, trailerRefusal}
-use Rattle.image.specs.Image.{imageFormat, imageTotal}
-use Rattle.image.proofs.Trailer.{length-right}
-use Rattle.image.proofs.Trailer.{length-right, counts-from, back-from}
+use borrow.Author.Tests.{lt-leb, eq-eqb, ne-eqb, not-true, not-false}
+use Rattle.area.specs.Rules.{countsInRange}
+use Rattle.refusal.specs.Judgement.{refuseUnless, otherwise}
+use Rattle.image.specs.Image.{knownFormat, imageInputs, imageGates, imageOutputs, imageFormat}
+use Rattle.image.specs.Refusals.{lengthRight, backRight, trailerRefusal}
 use Rattle.image.proofs.judge_trailer.Statement.{statement}
 use Rattle.image.proofs.judge_trailer.Tie as tie
 
 returns : tie.Need-returns
 unfolding trailerRefusal lengthRight
-returns c = simp (lt-leb 16 _ (c .if1 .taken))
+returns c = simp (lt-leb _ _ (c .if1 .taken))
+
+length-right-requires : tie.Need-length-right-requires
+length-right-requires c κs = search needs
 
 returns-2 : tie.Need-returns-2
-unfolding trailerRefusal lengthRight
-returns-2 c = simp (le-leb 16 _ (c .before .if1 .left), lt-leb _ 32_768 (c .if2 .taken))
+unfolding trailerRefusal
+returns-2 c = simp (← c .before .length-right .ensures, not-true (c .before .length-right .result) (c .if2 .taken))
 
-add-four-bytes : tie.Need-add-four-bytes
-add-four-bytes c = search needs
-
-four-bytes-requires : tie.Need-four-bytes-requires
-four-bytes-requires c κs = search needs
-
-cast-if3 : tie.Need-cast-if3
-cast-if3 c = search needs
-
-returns-3 : tie.Need-returns-3
-unfolding trailerRefusal lengthRight
-returns-3 c =
-    let bs = now (c .before .before .before .before .before .args .image) in
-    simp (
-      le-leb 16 (length bs) (c .before .before .before .if1 .left),
-      le-leb (length bs) 32_768 (c .before .before .if2 .left),
-      ne-eqb (imageTotal bs) (length bs) (λ e. c .if3 .taken (c .before .four-bytes .ensures ∙ e)),
-    )
+sub-at : tie.Need-sub-at
+sub-at c = search needs
 
 add-two-bytes : tie.Need-add-two-bytes
 add-two-bytes c = search needs
@@ -45,83 +30,81 @@ add-two-bytes c = search needs
 two-bytes-requires : tie.Need-two-bytes-requires
 two-bytes-requires c κs = search needs
 
-returns-4 : tie.Need-returns-4
+returns-3 : tie.Need-returns-3
 unfolding trailerRefusal
-returns-4 c =
-    let bs = now (c .before .before .before .before .before .before .before .args .image) in
-    simp (length-right bs (c .before .before .before .before .before .if1 .left) (c .before .before .before .before .if2 .left) (sym (c .before .before .before .four-bytes .ensures) ∙ c .before .before .if3 .left), ne-eqb (imageFormat bs) 1 (λ e. c .if4 .taken (c .before .two-bytes .ensures .0 ∙ e)))
+returns-3 c =
+    let bs = now (c .before .before .before .before .before .before .args .image) in
+    let right = c .before .before .before .length-right in
+    let other = ne-eqb (imageFormat bs) knownFormat (λ e. c .if3 .taken (c .before .two-bytes .ensures .0 ∙ e)) in
+    simp (← right .ensures, not-false (right .result) (c .before .before .if2 .left), other)
 
-add-two-bytes-2 : tie.Need-add-two-bytes-2
-add-two-bytes-2 c = search needs
+count-requires : tie.Need-count-requires
+count-requires c κs = search needs
 
-two-bytes-requires-2 : tie.Need-two-bytes-requires-2
-two-bytes-requires-2 c κs = search needs
+add-count : tie.Need-add-count
+add-count c = search needs
 
-add-two-bytes-3 : tie.Need-add-two-bytes-3
-add-two-bytes-3 c = search needs
+count-requires-2 : tie.Need-count-requires-2
+count-requires-2 c κs = search needs
 
-two-bytes-requires-3 : tie.Need-two-bytes-requires-3
-two-bytes-requires-3 c κs = search needs
+add-count-2 : tie.Need-add-count-2
+add-count-2 c = search needs
 
-two-bytes-requires-4 : tie.Need-two-bytes-requires-4
-two-bytes-requires-4 c κs = search needs
+count-requires-3 : tie.Need-count-requires-3
+count-requires-3 c κs = search needs
 
 counts-in-range-requires : tie.Need-counts-in-range-requires
 counts-in-range-requires c κs = search needs
 
-returns-5 : tie.Need-returns-5
+-- what is left once 1 and 2 are passed
+left-over : (c : tie.After-counts-in-range) →
+    let bs = now (c .before .before .before .before .before .before .before .before .before .before .args .image) in
+    trailerRefusal bs ≡ otherwise (refuseUnless (c .counts-in-range .result) 3 0) (refuseUnless (backRight bs) 4 0)
 unfolding trailerRefusal
-returns-5 c =
-    let bs = now (c .before .before .before .before .before .before .before .before .before .before .before .before .args .image) in
-    simp (length-right bs (c .before .before .before .before .before .before .before .before .before .before .if1 .left) (c .before .before .before .before .before .before .before .before .before .if2 .left) (sym (c .before .before .before .before .before .before .before .before .four-bytes .ensures) ∙ c .before .before .before .before .before .before .before .if3 .left), eq-eqb (imageFormat bs) 1 (sym (c .before .before .before .before .before .before .two-bytes .ensures .0) ∙ c .before .before .before .before .before .if4 .left), counts-from bs _ _ _ _ (c .before .before .two-bytes4 .ensures .0) (c .before .before .before .before .two-bytes2 .ensures .0) (c .before .before .before .two-bytes3 .ensures .0) (c .before .counts-in-range .ensures), not-true (c .before .counts-in-range .result) (c .if5 .taken))
+left-over c =
+    let bs = now (c .before .before .before .before .before .before .before .before .before .before .args .image) in
+    let right = c .before .before .before .before .before .before .before .length-right in
+    let same = sym (c .before .before .before .before .before .two-bytes .ensures .0) ∙ c .before .before .before .before .if3 .left in
+    let counts : countsInRange (imageInputs bs) (imageGates bs) (imageOutputs bs) ≡ c .counts-in-range .result = cc in
+    let passed = not-false (right .result) (c .before .before .before .before .before .before .if2 .left) in
+    simp (← right .ensures, passed, eq-eqb (imageFormat bs) knownFormat same, counts)
 
-add-four-bytes-2 : tie.Need-add-four-bytes-2
-add-four-bytes-2 c = search needs
-
-four-bytes-requires-2 : tie.Need-four-bytes-requires-2
-four-bytes-requires-2 c κs = search needs
-
-cast-back-right : tie.Need-cast-back-right
-cast-back-right c = search needs
+returns-4 : tie.Need-returns-4
+returns-4 c = rw (left-over (c .before), not-true (c .before .counts-in-range .result) (c .if4 .taken))
 
 back-right-requires : tie.Need-back-right-requires
 back-right-requires c κs = search needs
 
-returns-6 : tie.Need-returns-6
-unfolding trailerRefusal
-returns-6 c =
-    let bs = now (c .before .before .before .before .before .before .before .before .before .before .before .before .before .before .before .args .image) in
-    simp (length-right bs (c .before .before .before .before .before .before .before .before .before .before .before .before .before .if1 .left) (c .before .before .before .before .before .before .before .before .before .before .before .before .if2 .left) (sym (c .before .before .before .before .before .before .before .before .before .before .before .four-bytes .ensures) ∙ c .before .before .before .before .before .before .before .before .before .before .if3 .left), eq-eqb (imageFormat bs) 1 (sym (c .before .before .before .before .before .before .before .before .before .two-bytes .ensures .0) ∙ c .before .before .before .before .before .before .before .before .if4 .left), counts-from bs _ _ _ _ (c .before .before .before .before .before .two-bytes4 .ensures .0) (c .before .before .before .before .before .before .before .two-bytes2 .ensures .0) (c .before .before .before .before .before .before .two-bytes3 .ensures .0) (c .before .before .before .before .counts-in-range .ensures), not-false (c .before .before .before .before .counts-in-range .result) (c .before .before .before .if5 .left), back-from bs _ _ _ _ (c .before .before .four-bytes2 .ensures) (c .before .before .before .before .before .before .before .two-bytes2 .ensures .0) (c .before .before .before .before .before .before .two-bytes3 .ensures .0) (c .before .back-right .ensures), not-true (c .before .back-right .result) (c .if6 .taken))
+returns-5 : tie.Need-returns-5
+returns-5 c =
+    let back = c .before .back-right in
+    let counts = not-false (c .before .before .before .counts-in-range .result) (c .before .before .if4 .left) in
+    rw (left-over (c .before .before .before), counts, ← back .ensures) (rw (not-true (back .result) (c .if5 .taken)))
 
-returns-7 : tie.Need-returns-7
-unfolding trailerRefusal
-returns-7 c =
-    let bs = now (c .before .before .before .before .before .before .before .before .before .before .before .before .before .before .before .args .image) in
-    simp (length-right bs (c .before .before .before .before .before .before .before .before .before .before .before .before .before .if1 .left) (c .before .before .before .before .before .before .before .before .before .before .before .before .if2 .left) (sym (c .before .before .before .before .before .before .before .before .before .before .before .four-bytes .ensures) ∙ c .before .before .before .before .before .before .before .before .before .before .if3 .left), eq-eqb (imageFormat bs) 1 (sym (c .before .before .before .before .before .before .before .before .before .two-bytes .ensures .0) ∙ c .before .before .before .before .before .before .before .before .if4 .left), counts-from bs _ _ _ _ (c .before .before .before .before .before .two-bytes4 .ensures .0) (c .before .before .before .before .before .before .before .two-bytes2 .ensures .0) (c .before .before .before .before .before .before .two-bytes3 .ensures .0) (c .before .before .before .before .counts-in-range .ensures), not-false (c .before .before .before .before .counts-in-range .result) (c .before .before .before .if5 .left), back-from bs _ _ _ _ (c .before .before .four-bytes2 .ensures) (c .before .before .before .before .before .before .before .two-bytes2 .ensures .0) (c .before .before .before .before .before .before .two-bytes3 .ensures .0) (c .before .back-right .ensures), not-false (c .before .back-right .result) (c .if6 .left))
+returns-6 : tie.Need-returns-6
+returns-6 c =
+    let back = c .before .back-right in
+    let counts = not-false (c .before .before .before .counts-in-range .result) (c .before .before .if4 .left) in
+    rw (left-over (c .before .before .before), counts, ← back .ensures) (rw (not-false (back .result) (c .if5 .left)))
 
 pub judge-trailer-spec : {M : Type 1} → statement M
 judge-trailer-spec =
     tie.close
     (tie.spec
     returns
+    length-right-requires
     returns-2
-    add-four-bytes
-    four-bytes-requires
-    cast-if3
-    returns-3
+    sub-at
     add-two-bytes
     two-bytes-requires
-    returns-4
-    add-two-bytes-2
-    two-bytes-requires-2
-    add-two-bytes-3
-    two-bytes-requires-3
-    two-bytes-requires-4
+    returns-3
+    count-requires
+    add-count
+    count-requires-2
+    add-count-2
+    count-requires-3
     counts-in-range-requires
-    returns-5
-    add-four-bytes-2
-    four-bytes-requires-2
-    cast-back-right
+    returns-4
     back-right-requires
-    returns-6
-    returns-7)
+    returns-5
+    returns-6)

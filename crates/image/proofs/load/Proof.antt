@@ -1,16 +1,16 @@
 -- `image::load` meets its contract. Assumes nothing.
 use Prim.Native.Nat.{_≤_}
-use mathlib.Core.Path.{sym, ap, _∙_}
+use mathlib.Core.Path.{sym, _∙_}
 use native.Mathlib.Omega.{arith}
 use lib.ListN.{length}
 use denote.Ref.{now}
 use borrow.Author.Needs.{needs}
-use Rattle.area.specs.Layout.{mostWords}
+use Rattle.area.specs.Layout.{needed}
+use Rattle.refusal.proofs.Laws.{never-both, otherwise-first, otherwise-second}
+use Rattle.image.specs.Image.{imageGates, imageOutputs}
 use Rattle.image.specs.Refusals.{trailerRefusal, imageRefusal}
-use Rattle.refusal.specs.Judgement.{loaded}
-use Rattle.image.proofs.Middle.{image-first, image-second, stored-front}
-use Rattle.image.proofs.Trailer.{trailer-right}
-use Rattle.refusal.proofs.Laws.{done-fine, refused-is, never-both}
+use Rattle.image.proofs.Right.{trailer-right}
+use Rattle.image.proofs.Middle.{stored-front}
 use Rattle.image.proofs.load.Statement.{statement}
 use Rattle.image.proofs.load.Tie as tie
 
@@ -22,8 +22,8 @@ enum-told c = search needs
 
 load-netlist-requires : tie.Need-load-netlist-requires
 load-netlist-requires c κs =
-    let bs = now (c .before .before .before .before .before .before .args .image) in
-    (trailer-right bs (done-fine (trailerRefusal bs) (sym (c .before .before .before .judge-trailer .ensures) ∙ c .before .enum-told .given .1)), search needs)
+    let passed = sym (c .before .before .before .judge-trailer .ensures) ∙ c .before .enum-told .given .1 in
+    (trailer-right (now (c .before .before .before .before .before .before .args .image)) passed, search needs)
 
 enum-known-number : tie.Need-enum-known-number
 enum-known-number c = search needs
@@ -32,21 +32,24 @@ same-length : tie.Need-same-length
 same-length c = search needs
 
 returns : tie.Need-returns
+unfolding imageRefusal
 returns c =
-    let bs = now (c .before .before .before .before .before .before .before .before .before .args .image) in
+    let start = c .before .before .before .before .before .before .before .before .before in
+    let bs = now (start .args .image) in
+    let ws = now (start .args .words) in
     let net = c .before .before .load-netlist in
-    let passed = done-fine (trailerRefusal bs) (sym (c .before .before .before .before .before .before .judge-trailer .ensures) ∙ c .before .before .before .before .enum-told .given .1) in
-    let answer = net .ensures .0 ∙ ap loaded (sym (image-second bs passed)) in
+    let passed = sym (c .before .before .before .before .before .before .judge-trailer .ensures) ∙ c .before .before .before .before .enum-told .given .1 in
+    let answer = net .ensures .0 ∙ sym (otherwise-second (trailerRefusal bs) _ passed) in
     let t = trailer-right bs passed in
-    let room : mostWords ≤ length (now (c .before .before .before .before .before .before .before .before .before .args .words)) = c .before .before .before .before .before .before .before .before .before .pre in
-    (answer, λ e. stored-front bs (now (c .before .before .before .before .before .before .before .before .before .args .words)) _ (omega arith) (net .ensures .1 (answer ∙ ap loaded e)))
+    let room : needed (imageGates bs) (imageOutputs bs) ≤ length ws = omega (arith, start .pre) in
+    (answer, λ e. stored-front bs ws _ room (net .ensures .1 (answer ∙ e)))
 
 returns-2 : tie.Need-returns-2
+unfolding imageRefusal
 returns-2 c =
     let bs = now (c .before .before .before .before .before .before .args .image) in
-    let told = c .before .number .given in
-    let refused = image-first bs (told .0 .0) (told .0 .1 .0) (refused-is (trailerRefusal bs) (told .0 .0) (told .0 .1 .0) (sym (c .before .before .before .judge-trailer .ensures) ∙ told .1)) in
-    (ap loaded (sym refused), λ e. absurd (never-both (imageRefusal bs) (told .0 .0) (told .0 .1 .0) e refused))
+    let refused = otherwise-first (trailerRefusal bs) _ _ _ (sym (c .before .before .before .judge-trailer .ensures) ∙ c .before .number .given .1) in
+    (sym refused, λ e. never-both (imageRefusal bs) _ _ e refused)
 
 pub load-spec : {M : Type 1} → statement M
 load-spec =

@@ -1,61 +1,103 @@
--- `image::load_gate` meets its contract: the first of the three tests that fails decides, and a gate that passes is written. Assumes nothing.
-use Prim.Native.Nat.{_+_, _*_}
-use mathlib.Core.Bool.{true, false}
-use mathlib.Core.Path.{sym, ap, _∙_}
+-- `image::load_gate` meets its contract: the first of the three tests that fails decides, and a gate that passes is stored. Assumes nothing.
+use Prim.Native.Nat.{_+_}
+use mathlib.Core.Bool.{true}
+use mathlib.Core.Path.{_≡_, sym, ap₂, _∙_}
 use lib.Seq.{sets}
 use denote.Ref.{now}
-use borrow.Author.Tests.{not-true, not-false}
 use borrow.Author.Needs.{needs}
-use Rattle.area.specs.Layout.{gateIndex}
+use borrow.Author.Tests.{not-true, not-false}
+use Rattle.chance.specs.declared.FlipUnits.the-variants.{Units, Refused as NoUnits}
+use Rattle.chance.specs.Flip.{flipAccepted, readUnits}
 use Rattle.chance.proofs.Laws.{units-accepted, units-refused}
+use Rattle.area.specs.Rules.{gateShape, usedBelow}
 use Rattle.rules.proofs.Facts.{shape-holds}
-use Rattle.refusal.specs.Judgement.{loaded}
-use Rattle.image.proofs.Gates.{shape-from, used-from, flip-from, gate-5, gate-6, gate-7, gate-fine, words-of}
-use Rattle.refusal.proofs.Laws.{refused-not-done}
+use Rattle.refusal.specs.Judgement.{refuseUnless, otherwise}
+use Rattle.refusal.proofs.Laws.{refused-not-fine}
+use Rattle.image.specs.Image.{recordCount, recordKind, recordTable, recordPins, recordField}
+use Rattle.image.specs.Refusals.{gateRefusal}
+use Rattle.image.proofs.Middle.{record-stored}
 use Rattle.image.proofs.load_gate.Statement.{statement}
 use Rattle.image.proofs.load_gate.Tie as tie
 
-read-gate-requires : tie.Need-read-gate-requires
-read-gate-requires c κs = search needs
+mul-at : tie.Need-mul-at
+mul-at c = search needs
+
+shared-slice-read-wide : tie.Need-shared-slice-read-wide
+shared-slice-read-wide c = search needs
+
+wide-requires : tie.Need-wide-requires
+wide-requires c κs = search needs
+
+index-requires : tie.Need-index-requires
+index-requires c κs = search needs
+
+add-two-bytes : tie.Need-add-two-bytes
+add-two-bytes c = search needs
+
+two-bytes-requires : tie.Need-two-bytes-requires
+two-bytes-requires c κs = search needs
+
+add-four-numbers : tie.Need-add-four-numbers
+add-four-numbers c = search needs
+
+four-numbers-requires : tie.Need-four-numbers-requires
+four-numbers-requires c κs = search needs
 
 gate-shape-requires : tie.Need-gate-shape-requires
 gate-shape-requires c κs = search needs
 
-cast-t12 : tie.Need-cast-t12
-cast-t12 c = search needs
+cast-t18 : tie.Need-cast-t18
+cast-t18 c = search needs
+
+-- the first test as the code asked it
+shape : (c : tie.After-gate-shape) →
+    let a = c .before .before .before .before .before .before .before .before .args in
+    let m = now (a .middle) in
+    gateShape (recordCount m (a .j)) (recordTable m (a .j)) (recordPins m (a .j)) ≡ c .gate-shape .result
+shape c = cc
 
 returns : tie.Need-returns
-returns c =
-    let a = c .before .before .before .before .before .before .before .args in
-    let m = now (a .middle) in
-    let g = c .before .before .before .before .read-gate in
-    let shape = shape-from m (a .j) (g .result) (g .ensures) (c .before .gate-shape .result) (c .before .gate-shape .ensures) in
-    (ap loaded (sym (gate-5 m (a .n) (a .j) (shape ∙ not-true (c .before .gate-shape .result) (c .if1 .taken)))), λ e. refused-not-done 5 (a .j) e)
-
-cast-used-below : tie.Need-cast-used-below
-cast-used-below c = search needs
+unfolding gateRefusal
+returns c = (simp (shape (c .before), not-true (c .before .gate-shape .result) (c .if1 .taken)), refused-not-fine 5 _)
 
 add-used-below : tie.Need-add-used-below
 add-used-below c = search needs
 
 used-below-requires : tie.Need-used-below-requires
 used-below-requires c κs =
-    let g = c .before .before .before .before .read-gate in
-    shape-holds (g .result .count) (g .result .table) (g .result .pins)
-    (sym (c .before .gate-shape .ensures) ∙ not-false (c .before .gate-shape .result) (c .if1 .left))
-    .pin-count
+    let passed = sym (c .before .gate-shape .ensures) ∙ not-false (c .before .gate-shape .result) (c .if1 .left) in
+    shape-holds _ (c .before .before .before .two-bytes .result) (c .before .before .four-numbers .result) passed .pin-count
 
-cast-t15 : tie.Need-cast-t15
-cast-t15 c = search needs
+cast-t19 : tie.Need-cast-t19
+cast-t19 c = search needs
+
+-- what is left once 5 is passed
+left-over : (c : tie.After-used-below) →
+    let a = c .before .before .before .before .before .before .before .before .before .before .args in
+    let m = now (a .middle) in
+    let flip = flipAccepted (recordKind m (a .j)) (recordField m (a .j)) in
+    gateRefusal m (a .inputs) (a .j) ≡ otherwise (refuseUnless (c .used-below .result) 6 (a .j)) (refuseUnless flip 7 (a .j))
+unfolding gateRefusal
+left-over c =
+    let a = c .before .before .before .before .before .before .before .before .before .before .args in
+    let m = now (a .middle) in
+    let used : usedBelow (a .inputs + a .j) (recordCount m (a .j)) (recordPins m (a .j)) ≡ c .used-below .result = cc in
+    simp (shape (c .before .before), not-false (c .before .before .gate-shape .result) (c .before .if1 .left), used)
 
 returns-2 : tie.Need-returns-2
-returns-2 c =
-    let a = c .before .before .before .before .before .before .before .before .before .args in
-    let m = now (a .middle) in
-    let g = c .before .before .before .before .before .before .read-gate in
-    let shape = shape-from m (a .j) (g .result) (g .ensures) (c .before .before .before .gate-shape .result) (c .before .before .before .gate-shape .ensures) in
-    let used = used-from m (a .j) (g .result) (g .ensures) (a .n + a .j) (c .before .used-below .result) (c .before .used-below .ensures) in
-    (ap loaded (sym (gate-6 m (a .n) (a .j) (shape ∙ not-false (c .before .before .before .gate-shape .result) (c .before .before .if1 .left)) (used ∙ not-true (c .before .used-below .result) (c .if2 .taken)))), λ e. refused-not-done 6 (a .j) e)
+returns-2 c = (rw (left-over (c .before), not-true (c .before .used-below .result) (c .if2 .taken)), refused-not-fine 6 _)
+
+add-read-units : tie.Need-add-read-units
+add-read-units c = search needs
+
+shared-slice-read-read-units : tie.Need-shared-slice-read-read-units
+shared-slice-read-read-units c = search needs
+
+add-eight-bytes : tie.Need-add-eight-bytes
+add-eight-bytes c = search needs
+
+eight-bytes-requires : tie.Need-eight-bytes-requires
+eight-bytes-requires c κs = search needs
 
 read-units-requires : tie.Need-read-units-requires
 read-units-requires c κs = search needs
@@ -63,85 +105,95 @@ read-units-requires c κs = search needs
 enum-known-units : tie.Need-enum-known-units
 enum-known-units c = search needs
 
-mul-write-eight : tie.Need-mul-write-eight
-mul-write-eight c = search needs
+array-read-t27 : tie.Need-array-read-t27
+array-read-t27 c = search needs
 
-add-write-eight : tie.Need-add-write-eight
-add-write-eight c = search needs
+array-read-t30 : tie.Need-array-read-t30
+array-read-t30 c = search needs
 
-array-read-t25 : tie.Need-array-read-t25
-array-read-t25 c = search needs
+array-read-t33 : tie.Need-array-read-t33
+array-read-t33 c = search needs
 
-array-read-t28 : tie.Need-array-read-t28
-array-read-t28 c = search needs
+array-read-t36 : tie.Need-array-read-t36
+array-read-t36 c = search needs
 
-array-read-t31 : tie.Need-array-read-t31
-array-read-t31 c = search needs
+gate-index-requires : tie.Need-gate-index-requires
+gate-index-requires c κs = search needs
 
-array-read-t34 : tie.Need-array-read-t34
-array-read-t34 c = search needs
+slice-aggregate-store : tie.Need-slice-aggregate-store
+slice-aggregate-store c = search needs
 
-write-eight-requires : tie.Need-write-eight-requires
-write-eight-requires c κs = search needs
+store-requires : tie.Need-store-requires
+store-requires c κs = search needs
 
 enum-told : tie.Need-enum-told
 enum-told c = search needs
 
-cast-t36 : tie.Need-cast-t36
-cast-t36 c = search needs
+cast-t43 : tie.Need-cast-t43
+cast-t43 c = search needs
 
 same-length : tie.Need-same-length
 same-length c = search needs
 
 returns-3 : tie.Need-returns-3
 returns-3 c =
-    let a = c .before .before .before .before .before .before .before .before .before .before .before .before .before .before .before .before .before .args in
+    let told = c .before .before .before .before .before .before .before in
+    let asked = told .before .before .before .before .before .before in
+    let read = asked .before .before .before in
+    let a = asked .before .before .before .before .before .before .before .before .before .before .args in
     let m = now (a .middle) in
-    let g = c .before .before .before .before .before .before .before .before .before .before .before .before .before .before .read-gate in
-    let shape = shape-from m (a .j) (g .result) (g .ensures) (c .before .before .before .before .before .before .before .before .before .before .before .gate-shape .result) (c .before .before .before .before .before .before .before .before .before .before .before .gate-shape .ensures) in
-    let used = used-from m (a .j) (g .result) (g .ensures) (a .n + a .j) (c .before .before .before .before .before .before .before .before .before .used-below .result) (c .before .before .before .before .before .before .before .before .before .used-below .ensures) in
-    let units = c .before .before .before .before .before .units .given in
-    let said = units-accepted (g .result .kind) (g .result .field) (units .0 .0) (sym (c .before .before .before .before .before .before .before .read-units .ensures) ∙ units .1) in (
-      ap loaded (sym (gate-fine m (a .n) (a .j) (shape ∙ not-false (c .before .before .before .before .before .before .before .before .before .before .before .gate-shape .result) (c .before .before .before .before .before .before .before .before .before .before .if1 .left)) (used ∙ not-false (c .before .before .before .before .before .before .before .before .before .used-below .result) (c .before .before .before .before .before .before .before .before .if2 .left)) (flip-from m (a .j) (g .result) (g .ensures) true (said .0)))),
-      λ e. c .before .before .write-eight .ensures ∙ ap (sets (now (a .words)) (gateIndex (a .j))) (words-of m (a .j) (units .0 .0) (g .result) (g .ensures) (said .1)),
+    let units = told .units .given .0 .0 in
+    let is : readUnits (recordKind m (a .j)) (recordField m (a .j)) ≡ Units units = cc in
+    let said = units-accepted (recordKind m (a .j)) (recordField m (a .j)) units is in
+    let count = read .before .before .before .wide .ensures .0 in
+    let words = record-stored m (a .j) _ _ units _ count (read .before .two-bytes .ensures .0) (read .four-numbers .ensures) (said .1) in (
+      rw (left-over asked, not-false (asked .used-below .result) (told .before .before .before .before .before .if2 .left), said .0),
+      λ e. c .before .before .store .ensures ∙ ap₂ (sets (now (a .words))) (c .before .before .before .before .gate-index .ensures) words,
     )
 
 returns-4 : tie.Need-returns-4
 returns-4 c =
-    let a = c .before .before .before .before .before .before .before .before .before .before .before .before .args in
+    let asked = c .before .before .before .before .before .before in
+    let a = asked .before .before .before .before .before .before .before .before .before .before .args in
     let m = now (a .middle) in
-    let g = c .before .before .before .before .before .before .before .before .before .read-gate in
-    let shape = shape-from m (a .j) (g .result) (g .ensures) (c .before .before .before .before .before .before .gate-shape .result) (c .before .before .before .before .before .before .gate-shape .ensures) in
-    let used = used-from m (a .j) (g .result) (g .ensures) (a .n + a .j) (c .before .before .before .before .used-below .result) (c .before .before .before .before .used-below .ensures) in
-    let bad = units-refused (g .result .kind) (g .result .field) (sym (c .before .before .read-units .ensures) ∙ c .enum-told .given .1) in (
-      ap loaded (sym (gate-7 m (a .n) (a .j) (shape ∙ not-false (c .before .before .before .before .before .before .gate-shape .result) (c .before .before .before .before .before .if1 .left)) (used ∙ not-false (c .before .before .before .before .used-below .result) (c .before .before .before .if2 .left)) (flip-from m (a .j) (g .result) (g .ensures) false bad))),
-      λ e. refused-not-done 7 (a .j) e,
-    )
+    let is : readUnits (recordKind m (a .j)) (recordField m (a .j)) ≡ NoUnits = cc in
+    let bad = units-refused (recordKind m (a .j)) (recordField m (a .j)) is in
+    (rw (left-over asked, not-false (asked .used-below .result) (c .before .before .before .before .before .if2 .left), bad), refused-not-fine 7 _)
 
 pub load-gate-spec : {M : Type 1} → statement M
 load-gate-spec =
     tie.close
     (tie.spec
-    read-gate-requires
+    mul-at
+    shared-slice-read-wide
+    wide-requires
+    index-requires
+    add-two-bytes
+    two-bytes-requires
+    add-four-numbers
+    four-numbers-requires
     gate-shape-requires
-    cast-t12
+    cast-t18
     returns
-    cast-used-below
     add-used-below
     used-below-requires
-    cast-t15
+    cast-t19
     returns-2
+    add-read-units
+    shared-slice-read-read-units
+    add-eight-bytes
+    eight-bytes-requires
     read-units-requires
     enum-known-units
-    mul-write-eight
-    add-write-eight
-    array-read-t25
-    array-read-t28
-    array-read-t31
-    array-read-t34
-    write-eight-requires
+    array-read-t27
+    array-read-t30
+    array-read-t33
+    array-read-t36
+    gate-index-requires
+    slice-aggregate-store
+    store-requires
     enum-told
-    cast-t36
+    cast-t43
     same-length
     returns-3
     returns-4)

@@ -1,31 +1,27 @@
--- `image::load_gates` meets its contract: the gates passed have no refusal, and their words are stored after the head. Assumes nothing.
-use Prim.Native.Nat.{_+_, _*_, _-_, _≤_}
-use mathlib.Core.Path.{_≡_, refl, sym, ap, _∙_}
+-- `image::load_gates` meets its contract. Assumes nothing.
+use Prim.Native.Nat.{_-_, _≤_}
+use mathlib.Core.Path.{_≡_}
 use native.Mathlib.Omega.{arith}
-use lib.Seq.{sets}
-use lib.ListN.{length}
 use denote.Ref.{now}
 use borrow.Author.Needs.{needs}
-use Rattle.area.specs.Layout.{gateIndex}
-use Rattle.refusal.specs.declared.Judgement.the-variants.{Fine}
-use Rattle.refusal.specs.Judgement.{loaded, lowest}
-use Rattle.lists.specs.Lists.{joined}
-use Rattle.image.specs.declared.Loaded.the-variants.{Done}
-use Rattle.image.specs.Loading.{gateWords}
+use Rattle.area.specs.Layout.{headWords, gateIndex}
 use Rattle.image.specs.Refusals.{gateRefusal}
-use Rattle.image.proofs.Sets.{joined-turn, length-joined}
-use Rattle.refusal.proofs.Laws.{done-fine, lowest-more, lowest-answer, refused-not-done}
+use Rattle.image.specs.Loading.{recordWords}
+use Rattle.image.proofs.Passed.{Passed, starts, goes-on, stops, ends}
+use Rattle.image.proofs.Middle.{gate-place}
 use Rattle.image.proofs.load_gates.Statement.{statement}
 use Rattle.image.proofs.load_gates.Tie as tie
 
 abbrev Inv-loop : tie.InvT-loop
-Inv-loop middle n gates words₀ j₀ words j = (j ≤ gates) × (length words ≡ length words₀) × (lowest (gateRefusal middle n) j ≡ Fine) × (words ≡ sets words₀ 8 (joined (gateWords middle) j))
+Inv-loop middle inputs gates words₀ j₀ words j =
+    (j ≤ gates) × Passed (gateRefusal middle inputs) (recordWords middle) headWords words₀ j words
 
 abbrev μ-loop : tie.MeasureT-loop
-μ-loop middle n gates words₀ j₀ words j = gates - j
+μ-loop middle inputs gates words₀ j₀ words j =
+    gates - j
 
 loop-holds : tie.Need-loop-holds Inv-loop μ-loop
-loop-holds c = (omega arith, refl, refl, refl)
+loop-holds c = (omega arith, starts _ _ _ _)
 
 load-gate-requires : tie.Need-load-gate-requires Inv-loop μ-loop
 load-gate-requires c κs = search needs
@@ -43,15 +39,9 @@ loop-again : tie.Need-loop-again Inv-loop μ-loop
 loop-again c =
     let l = c .before .before .before .before .before .before .before .loop in
     let a = c .before .before .before .before .before .before .before .before .before .before .args in
-    let m = now (a .middle) in
-    let f = c .before .before .before .before .load-gate in
-    let told : f .result ≡ Done = c .enum-told .given .1 in (
-      omega arith,
-      f .kept .1 .1 .1 .0 ∙ l .inv .1,
-      lowest-more (gateRefusal m (a .n)) (l .j) (l .inv .2) (done-fine ((gateRefusal m (a .n)) (l .j)) (sym (f .ensures .0) ∙ told)),
-      joined-turn (gateWords m) (now (a .words)) (l .words) _ (8) (l .j) (gateIndex (l .j))
-          (omega (arith, length-joined (gateWords m) 8 (λ i. refl) (l .j))) (l .inv .3) (f .ensures .1 told),
-    )
+    let step = c .before .before .before .before .load-gate in
+    let place = gate-place (now (a .middle)) (l .j) in
+    (omega arith, goes-on (l .inv .1) (gateIndex (l .j)) (step .result) _ place (step .ensures) (c .enum-told .given .1))
 
 enum-known-number : tie.Need-enum-known-number Inv-loop μ-loop
 enum-known-number c = search needs
@@ -61,23 +51,16 @@ same-length c = search needs
 
 returns : tie.Need-returns Inv-loop μ-loop
 returns c =
-    let l = c .before .before .before .before .before .before .before .before .loop in
+    let passed = c .before .before .before .before .before .before .before .before .loop .inv .1 in
     let a = c .before .before .before .before .before .before .before .before .before .before .before .args in
-    let m = now (a .middle) in
-    let f = c .before .before .before .before .before .load-gate in (
-      lowest-answer (gateRefusal m (a .n)) (a .gates) (l .j) _ _ (f .result) (omega arith) (l .inv .2) (f .ensures .0) (c .before .number .given .1),
-      λ e. refused-not-done _ _ e,
-    )
+    let step = c .before .before .before .before .before .load-gate in
+    stops passed (a .gates) _ _ (step .result) _ (omega arith) (step .ensures .0) (c .before .number .given .1)
 
 same-length-2 : tie.Need-same-length-2 Inv-loop μ-loop
 same-length-2 c = search needs
 
 returns-2 : tie.Need-returns-2 Inv-loop μ-loop
-returns-2 c =
-    let l = c .before .loop in
-    let a = c .before .before .before .before .args in
-    let end : l .j ≡ a .gates = omega arith in
-    (ap loaded (sym (rw end at (l .inv .2))), λ e. rw end at (l .inv .3))
+returns-2 c = ends (c .before .loop .inv .1) (c .before .before .before .before .args .gates) (omega arith)
 
 pub load-gates-spec : {M : Type 1} → statement M
 load-gates-spec =

@@ -1,15 +1,14 @@
 -- `image::load_output` meets its contract. Assumes nothing.
-use Prim.Native.Nat.{ℕ, _+_, _*_, _≤_, _<_}
-use mathlib.Core.Path.{ap}
+use Prim.Native.Nat.{ℕ, _+_, _≤_, _<_}
+use mathlib.Core.Path.{ap₂}
 use native.Mathlib.Omega.{arith}
 use lib.ListN.{set}
 use denote.Ref.{now}
-use borrow.Author.Tests.{lt-ltb, le-ltb}
 use borrow.Author.Needs.{needs}
-use Rattle.area.specs.Layout.{gateIndex}
-use Rattle.image.specs.Refusals.{outputRefusal}
+use borrow.Author.Tests.{lt-ltb, le-ltb}
+use Rattle.refusal.proofs.Laws.{refused-not-fine}
 use Rattle.image.specs.Image.{outputAt}
-use Rattle.refusal.proofs.Laws.{refused-not-done}
+use Rattle.image.specs.Refusals.{outputRefusal}
 use Rattle.image.proofs.load_output.Statement.{statement}
 use Rattle.image.proofs.load_output.Tie as tie
 
@@ -25,33 +24,30 @@ add-two-bytes c = search needs
 two-bytes-requires : tie.Need-two-bytes-requires
 two-bytes-requires c κs = search needs
 
-cast-if1 : tie.Need-cast-if1
-cast-if1 c = search needs
+index-requires : tie.Need-index-requires
+index-requires c κs = search needs
 
 add-if1 : tie.Need-add-if1
 add-if1 c = search needs
 
-cast-t13 : tie.Need-cast-t13
-cast-t13 c = search needs
+cast-t11 : tie.Need-cast-t11
+cast-t11 c = search needs
 
 returns : tie.Need-returns
 unfolding outputRefusal
 returns c =
-    let a = c .before .before .before .before .args in
-    let far : a .n + a .gates ≤ outputAt (now (a .middle)) (a .gates) (a .k) = omega (arith, c .before .two-bytes .ensures .0, c .if1 .taken) in
-    (simp (le-ltb (outputAt (now (a .middle)) (a .gates) (a .k)) (a .n + a .gates) far), λ e. refused-not-done 8 (a .k) e)
+    let a = c .before .before .before .before .before .args in
+    let far : a .inputs + a .gates ≤ outputAt (now (a .middle)) (a .gates) (a .k) = omega arith in
+    (simp (le-ltb _ _ far), λ e. refused-not-fine 8 (a .k) e)
 
-mul-words : tie.Need-mul-words
-mul-words c = search needs
+outputs-index-requires : tie.Need-outputs-index-requires
+outputs-index-requires c κs = search needs
 
 add-words : tie.Need-add-words
 add-words c = search needs
 
-add-words-2 : tie.Need-add-words-2
-add-words-2 c = search needs
-
-mul-words-2 : tie.Need-mul-words-2
-mul-words-2 c = search needs
+mul-words : tie.Need-mul-words
+mul-words c = search needs
 
 slice-write-words : tie.Need-slice-write-words
 slice-write-words c = search needs
@@ -62,11 +58,9 @@ same-length c = search needs
 returns-2 : tie.Need-returns-2
 unfolding outputRefusal
 returns-2 c =
-    let a = c .before .before .before .before .args in
-    let near : outputAt (now (a .middle)) (a .gates) (a .k) < a .n + a .gates = omega (arith, c .before .two-bytes .ensures .0, c .if1 .left) in (
-      simp (lt-ltb (outputAt (now (a .middle)) (a .gates) (a .k)) (a .n + a .gates) near),
-      λ e. ap (λ (v : ℕ). set (now (a .words)) (gateIndex (a .gates) + a .k) v) (c .before .two-bytes .ensures .0),
-    )
+    let a = c .before .before .before .before .before .before .args in
+    let near : outputAt (now (a .middle)) (a .gates) (a .k) < a .inputs + a .gates = omega arith in
+    (simp (lt-ltb _ _ near), λ e. ap₂ (set (now (a .words))) (omega arith) (c .before .before .before .two-bytes .ensures .0))
 
 pub load-output-spec : {M : Type 1} → statement M
 load-output-spec =
@@ -76,14 +70,13 @@ load-output-spec =
     mul-two-bytes-2
     add-two-bytes
     two-bytes-requires
-    cast-if1
+    index-requires
     add-if1
-    cast-t13
+    cast-t11
     returns
-    mul-words
+    outputs-index-requires
     add-words
-    add-words-2
-    mul-words-2
+    mul-words
     slice-write-words
     same-length
     returns-2)

@@ -1,30 +1,31 @@
--- `image::write_eight` meets its contract: after i turns the first i values are stored. Assumes nothing.
+-- `image::store` meets its contract: after i turns the first i values are stored. Assumes nothing.
 use Prim.Native.Nat.{_-_, _≤_}
 use mathlib.Core.Path.{_≡_, refl, ap, _∙_}
 use native.Mathlib.Omega.{arith}
-use lib.Seq.{take-all}
-use lib.Seq.{sets}
 use lib.ListN.{length, take, length-set}
+use lib.Seq.{sets, take-all}
 use denote.Ref.{now}
 use borrow.Author.Needs.{needs}
-use Rattle.image.proofs.Sets.{sets-turn}
-use Rattle.image.proofs.write_eight.Statement.{statement}
-use Rattle.image.proofs.write_eight.Tie as tie
+use Rattle.lists.proofs.Parts.{sets-turn}
+use Rattle.image.proofs.store.Statement.{statement}
+use Rattle.image.proofs.store.Tie as tie
 
 abbrev Inv-loop : tie.InvT-loop
-Inv-loop words₀ base values i₀ words i = (i ≤ 8) × (length words ≡ length words₀) × (length values ≡ 8) × (words ≡ sets words₀ base (take i values))
+Inv-loop words₀ base values i₀ words i =
+    (i ≤ length values) × (length words ≡ length words₀) × (words ≡ sets words₀ base (take i values))
 
 abbrev μ-loop : tie.MeasureT-loop
-μ-loop words₀ base values i₀ words i = 8 - i
+μ-loop words₀ base values i₀ words i =
+    length values - i
 
 loop-holds : tie.Need-loop-holds Inv-loop μ-loop
-loop-holds c = (omega arith, refl, omega arith, refl)
+loop-holds c = (omega arith, refl, refl)
 
 mul-words : tie.Need-mul-words Inv-loop μ-loop
 mul-words c = search needs
 
-array-read-words : tie.Need-array-read-words Inv-loop μ-loop
-array-read-words c = search needs
+shared-slice-read-words : tie.Need-shared-slice-read-words Inv-loop μ-loop
+shared-slice-read-words c = search needs
 
 add-words : tie.Need-add-words Inv-loop μ-loop
 add-words c = search needs
@@ -43,13 +44,9 @@ loop-less c = search needs
 
 loop-again : tie.Need-loop-again Inv-loop μ-loop
 loop-again c =
-    let l = c .before .loop in
-    let a = c .before .before .args in (
-      omega arith,
-      simp length-set (l .inv .1),
-      l .inv .2,
-      sets-turn (a .t3) (now (a .words)) (l .words) (a .base) (l .i) (omega arith) (l .inv .3),
-    )
+    let l = c .before .before .loop in
+    let a = c .before .before .before .args in
+    (omega arith, simp length-set (l .inv .1), sets-turn (now (a .values)) (now (a .words)) (l .words) (a .base) (l .i) (omega arith) (l .inv .2))
 
 same-length : tie.Need-same-length Inv-loop μ-loop
 same-length c = search needs
@@ -58,19 +55,17 @@ returns : tie.Need-returns Inv-loop μ-loop
 returns c =
     let l = c .before .loop in
     let a = c .before .before .args in
-    let end : l .i ≡ 8 = omega arith in
-    let all : take (l .i) (a .t3) ≡ a .t3 = take-all (l .i) (a .t3) (omega arith) in
-    l .inv .3 ∙ ap (sets (now (a .words)) (a .base)) all
+    l .inv .2 ∙ ap (sets (now (a .words)) (a .base)) (take-all (l .i) (now (a .values)) (omega arith))
 
-pub write-eight-spec : {M : Type 1} → statement M
-write-eight-spec =
+pub store-spec : {M : Type 1} → statement M
+store-spec =
     tie.close
     (tie.spec
     Inv-loop
     μ-loop
     loop-holds
     mul-words
-    array-read-words
+    shared-slice-read-words
     add-words
     mul-words-2
     slice-write-words

@@ -1,0 +1,147 @@
+//! The six C functions of include/bench.h, each behind a safe function.
+
+use crate::{Flip, Refusal};
+
+mod c {
+    extern "C" {
+        pub fn bench_open(
+            area: *mut u32,
+            area_len: usize,
+            image: *const u8,
+            image_len: usize,
+            live: *mut u32,
+        ) -> u64;
+        pub fn bench_toggle_input(area: *mut u32, area_len: usize, input: u32) -> u64;
+        pub fn bench_set_flip(
+            area: *mut u32,
+            area_len: usize,
+            gate: u32,
+            kind: u8,
+            field: u64,
+        ) -> u64;
+        pub fn bench_read_netlist(
+            area: *const u32,
+            area_len: usize,
+            pattern: *mut u32,
+            units: *mut u32,
+            reliability: *mut f64,
+        ) -> u64;
+        pub fn bench_read_gate(
+            area: *const u32,
+            area_len: usize,
+            gate: u32,
+            right: *mut u32,
+            failure: *mut u32,
+        ) -> u64;
+        pub fn bench_average(
+            area: *mut u32,
+            area_len: usize,
+            weights: *const u32,
+            weights_len: usize,
+            units: *mut u32,
+        ) -> u64;
+    }
+}
+
+/// What a netlist reads as.
+#[derive(Clone, Copy, Debug, PartialEq)]
+pub struct NetlistReading {
+    /// Bit i is input i.
+    pub pattern: u32,
+    /// The chance that every output is right, in units.
+    pub units: u32,
+    /// The same: exactly `units` / 2^30.
+    pub reliability: f64,
+}
+
+/// What one gate reads as.
+#[derive(Clone, Copy, Debug, PartialEq, Eq)]
+pub struct GateReading {
+    /// Its value under the pattern where no gate flips.
+    pub right: bool,
+    /// The chance that it has the other value, in units.
+    pub failure: u32,
+}
+
+/// A returned number as an answer: 0 for done, else the refusal's number above 32 bits of place.
+fn answer<T>(returned: u64, result: T) -> Result<T, Refusal> {
+    match returned {
+        0 => Ok(result),
+        _ => Err(Refusal { number: (returned >> 32) as u8, place: returned as u32 }),
+    }
+}
+
+/// Opens an image in the area, with pattern 0, and tells how many gates are live. The area needs
+/// [`words`](crate::words) of the image's counts; [`MAX_WORDS`](crate::MAX_WORDS) always do.
+///
+/// Refused in this order: 1 to 4; gate by gate 5, 6, 7; output by output 8; 9; 13.
+pub fn open(area: &mut [u32], image: &[u8]) -> Result<u32, Refusal> {
+    let mut live = 0;
+    // SAFETY: both slices go with their own lengths, and `live` outlives the call.
+    let returned = unsafe {
+        c::bench_open(area.as_mut_ptr(), area.len(), image.as_ptr(), image.len(), &mut live)
+    };
+    answer(returned, live)
+}
+
+/// Toggles one input, and works out what depends on it.
+///
+/// Refused in this order: 13, 14, 10.
+pub fn toggle_input(area: &mut [u32], input: u32) -> Result<(), Refusal> {
+    // SAFETY: the slice goes with its own length.
+    let returned = unsafe { c::bench_toggle_input(area.as_mut_ptr(), area.len(), input) };
+    answer(returned, ())
+}
+
+/// Sets how one gate flips, and works out that gate and what depends on it.
+///
+/// Refused in this order: 13, 14, 10, 11.
+pub fn set_flip(area: &mut [u32], gate: u32, flip: Flip) -> Result<(), Refusal> {
+    let field = u64::from_le_bytes(flip.field());
+    // SAFETY: the slice goes with its own length.
+    let returned =
+        unsafe { c::bench_set_flip(area.as_mut_ptr(), area.len(), gate, flip.kind(), field) };
+    answer(returned, ())
+}
+
+/// Reads the pattern and the reliability.
+///
+/// Refused in this order: 13, 14.
+pub fn read_netlist(area: &[u32]) -> Result<NetlistReading, Refusal> {
+    let mut read = NetlistReading { pattern: 0, units: 0, reliability: 0.0 };
+    // SAFETY: the slice goes with its own length, and the three results outlive the call.
+    let returned = unsafe {
+        c::bench_read_netlist(
+            area.as_ptr(),
+            area.len(),
+            &mut read.pattern,
+            &mut read.units,
+            &mut read.reliability,
+        )
+    };
+    answer(returned, read)
+}
+
+/// Reads one gate.
+///
+/// Refused in this order: 13, 14, 10.
+pub fn read_gate(area: &[u32], gate: u32) -> Result<GateReading, Refusal> {
+    let (mut right, mut failure) = (0, 0);
+    // SAFETY: the slice goes with its own length, and both results outlive the call.
+    let returned =
+        unsafe { c::bench_read_gate(area.as_ptr(), area.len(), gate, &mut right, &mut failure) };
+    answer(returned, GateReading { right: right == 1, failure })
+}
+
+/// The weighted average of the reliability over all patterns, in units; `weights[q]` is the weight
+/// of pattern q. The pattern stays as it is.
+///
+/// Refused in this order: 13, 14, 12.
+pub fn average(area: &mut [u32], weights: &[u32]) -> Result<u32, Refusal> {
+    let mut units = 0;
+    // SAFETY: both slices go with their own lengths, and `units` outlives the call.
+    let returned = unsafe {
+        c::bench_average(area.as_mut_ptr(), area.len(), weights.as_ptr(), weights.len(), &mut units)
+    };
+    answer(returned, units)
+}

@@ -1,0 +1,66 @@
+//! The proved soft-error bench for Rust: six calls on a work area that the caller owns, and netlist
+//! images made from text.
+//!
+//! Every call answers a [`Result`]: its result, or a [`Refusal`] with the number and place that
+//! docs/SCOPE.md gives. A refused call has changed nothing. Figures are whole numbers of units, of
+//! which [`ONE`] make 1.
+//!
+//! ```
+//! use filzaod::{average, open, read_gate, read_netlist, set_flip, text, toggle_input, Flip, MAX_WORDS};
+//!
+//! let module = text::read(
+//!     "inputs 2
+//!      gate left 2 pins 0 chance 0.5
+//!      gate right 2 pins 1 chance 0.5
+//!      gate both 8 pins left right never
+//!      output both",
+//! )?;
+//! let mut area = vec![0; MAX_WORDS];
+//! assert_eq!(open(&mut area, &module.image)?, 3); // three live gates
+//! assert_eq!(average(&mut area, &[1, 1, 1, 1])?, 671_088_640);
+//!
+//! toggle_input(&mut area, 0)?;
+//! toggle_input(&mut area, 1)?;
+//! let netlist = read_netlist(&area)?;
+//! assert_eq!((netlist.pattern, netlist.units, netlist.reliability), (3, 268_435_456, 0.25));
+//!
+//! set_flip(&mut area, 0, Flip::Never)?;
+//! assert_eq!(read_netlist(&area)?.reliability, 0.5);
+//! assert!(read_gate(&area, 2)?.right);
+//!
+//! let refusal = toggle_input(&mut area, 2).unwrap_err();
+//! assert_eq!((refusal.number, refusal.place), (10, 2));
+//! assert_eq!(refusal.to_string(), "refused 10 2: there is no input or gate 2");
+//! # Ok::<(), Box<dyn std::error::Error>>(())
+//! ```
+
+mod calls;
+mod flip;
+mod image;
+mod refusal;
+pub mod text;
+
+pub use calls::{average, open, read_gate, read_netlist, set_flip, toggle_input};
+pub use calls::{GateReading, NetlistReading};
+pub use flip::Flip;
+pub use refusal::Refusal;
+
+/// One, in units.
+pub const ONE: u32 = 1 << 30;
+/// The most inputs that a netlist has.
+pub const MAX_INPUTS: usize = 12;
+/// The most gates that a netlist has.
+pub const MAX_GATES: usize = 1024;
+/// The most outputs that a netlist has; it has one at least.
+pub const MAX_OUTPUTS: usize = 64;
+/// The longest image, in bytes.
+pub const MAX_IMAGE: usize = 32_768;
+/// The largest weight of a pattern in an average.
+pub const MAX_WEIGHT: u32 = 1_048_575;
+/// Words of an area that is long enough for every netlist.
+pub const MAX_WORDS: usize = words(MAX_GATES, MAX_OUTPUTS);
+
+/// How many words of an area a netlist with these counts takes.
+pub const fn words(gates: usize, outputs: usize) -> usize {
+    8 + 8 * gates + outputs
+}

@@ -1,0 +1,132 @@
+//! The six calls through the safe functions: what they answer, and that a refused one changes nothing.
+
+use filzaod::{average, open, read_gate, read_netlist, set_flip, text, toggle_input, words};
+use filzaod::{Flip, GateReading, Refusal, MAX_WEIGHT, MAX_WORDS, ONE};
+
+const WORDS: usize = words(3, 1);
+const UNTOUCHED: u32 = 0x5AFE_C0DE;
+
+fn printed_sheet() -> Vec<u8> {
+    let text = "inputs 2\ngate left 2 pins 0 chance 0.5\ngate right 2 pins 1 chance 0.5\n\
+                gate both 8 pins left right never\noutput both\n";
+    text::read(text).expect("a good text").image
+}
+
+fn opened() -> [u32; WORDS + 1] {
+    let mut area = [UNTOUCHED; WORDS + 1];
+    assert_eq!(open(&mut area, &printed_sheet()), Ok(3));
+    area
+}
+
+/// That a call is refused so, and changes no word.
+fn refused<T: std::fmt::Debug>(
+    area: &mut [u32],
+    number: u8,
+    place: u32,
+    call: impl FnOnce(&mut [u32]) -> Result<T, Refusal>,
+) {
+    let before = area.to_vec();
+    assert_eq!(call(area).expect_err("a refusal"), Refusal { number, place });
+    assert_eq!(area, before);
+}
+
+#[test]
+fn open_toggle_set_read_average() {
+    let mut area = opened();
+    assert_eq!(area[..8], [2, 3, 1, 0, 805_306_368, 0, 0, 0]);
+    assert_eq!(area[WORDS], UNTOUCHED);
+    assert_eq!(average(&mut area, &[1; 4]), Ok(671_088_640));
+    assert_eq!(average(&mut area, &[0, 0, 0, MAX_WEIGHT]), Ok(ONE / 4));
+    let half = GateReading { right: false, failure: ONE / 2 };
+    assert_eq!(read_gate(&area, 0), Ok(half));
+    toggle_input(&mut area, 0).expect("input 0");
+    assert_eq!(read_gate(&area, 0), Ok(GateReading { right: true, ..half }));
+    assert_eq!(read_gate(&area, 1), Ok(half));
+    toggle_input(&mut area, 1).expect("input 1");
+    let read = read_netlist(&area).expect("a netlist");
+    assert_eq!((read.pattern, read.units, read.reliability), (3, ONE / 4, 0.25));
+    assert_eq!(area[WORDS], UNTOUCHED);
+}
+
+#[test]
+fn every_way_to_set_a_flip() {
+    let mut area = opened();
+    let flips = [
+        (Flip::Never, 0),
+        (Flip::Chance(0.05), 53_687_091),
+        (Flip::Chance(1.0), ONE),
+        (Flip::Chance(-0.0), 0),
+        (Flip::Strike { chance: 0.5, window: 0.25 }, ONE / 8),
+        (Flip::Raw { kind: 1, field: 0.5f64.to_le_bytes() }, ONE / 2),
+    ];
+    for (flip, failure) in flips {
+        set_flip(&mut area, 1, flip).expect("a good flip");
+        assert_eq!(read_gate(&area, 1).expect("gate 1").failure, failure, "{flip:?}");
+    }
+}
+
+#[test]
+fn refused_calls_have_number_and_place() {
+    let mut area = opened();
+    let area = &mut area[..];
+    refused(area, 10, 2, |area| toggle_input(area, 2));
+    refused(area, 10, u32::MAX, |area| toggle_input(area, u32::MAX));
+    refused(area, 10, 3, |area| set_flip(area, 3, Flip::Never));
+    refused(area, 10, 3, |area| read_gate(area, 3));
+    refused(area, 11, 1, |area| set_flip(area, 1, Flip::Chance(f64::NAN)));
+    refused(area, 11, 1, |area| set_flip(area, 1, Flip::Strike { chance: 1.5, window: 0.0 }));
+    refused(area, 11, 2, |area| set_flip(area, 2, Flip::Raw { kind: 3, field: [0; 8] }));
+    refused(area, 12, 0, |area| average(area, &[1; 3]));
+    refused(area, 12, 0, |area| average(area, &[]));
+    refused(area, 12, 2, |area| average(area, &[1, 1, MAX_WEIGHT + 1, u32::MAX]));
+    refused(area, 12, 0, |area| average(area, &[0; 4]));
+    refused(area, 1, 0, |area| open(area, &[]));
+    refused(&mut area[..WORDS - 1], 13, 0, |area| open(area, &printed_sheet()));
+    refused(&mut area[..WORDS - 1], 13, 0, |area| average(area, &[1; 4]));
+    refused(&mut [], 13, 0, |area| toggle_input(area, 0));
+    refused(&mut [], 13, 0, |area| read_netlist(area));
+    area[5] = 1;
+    refused(area, 14, 0, |area| read_netlist(area));
+    refused(area, 14, 0, |area| set_flip(area, 9, Flip::Never));
+}
+
+/// The printed sheet's image with some bytes from `at` on changed.
+fn damaged(at: usize, bytes: &[u8]) -> Vec<u8> {
+    let mut image = printed_sheet();
+    image[at..at + bytes.len()].copy_from_slice(bytes);
+    image
+}
+
+#[test]
+fn refused_images_have_number_and_place() {
+    let mut area = opened();
+    let (output, trailer) = (60, 62);
+    let cases = [
+        (1, 0, damaged(trailer + 12, &[77])),
+        (2, 0, damaged(trailer + 6, &[2])),
+        (3, 0, damaged(trailer, &[13])),
+        (4, 0, damaged(trailer + 8, &[61])),
+        (5, 1, damaged(20, &[5])),
+        (6, 1, damaged(24, &[3])),
+        (7, 2, damaged(41, &[3])),
+        (8, 0, damaged(output, &[5])),
+        (9, 0, damaged(46, &[2])),
+    ];
+    for (number, place, image) in cases {
+        refused(&mut area, number, place, |area| open(area, &image));
+    }
+    assert_eq!(open(&mut [0; MAX_WORDS], &damaged(0, &[1])), Ok(3));
+}
+
+#[test]
+fn every_refusal_can_be_read() {
+    for number in 1..=14 {
+        let said = Refusal { number, place: 77 }.to_string();
+        assert!(said.starts_with(&format!("refused {number} 77: ")), "{said}");
+        assert!(said.len() > 20 && !said.contains("unknown"), "{said}");
+        let named = matches!(number, 5..=11);
+        assert_eq!(said.matches("77").count(), if named { 2 } else { 1 }, "{said}");
+    }
+    let later = Refusal { number: 15, place: 0 };
+    assert_eq!(later.to_string(), "refused 15 0: unknown to this package");
+}

@@ -1,0 +1,81 @@
+/* Holds the names and limits of include/bench.h to what the library does, one refusal after the other. */
+#include "bench.h"
+#include <stdio.h>
+#include <stdlib.h>
+#include <string.h>
+
+enum { GATE = 20, OUTPUT = 60, TRAILER = 62, LENGTH = 78 };
+
+/* The image that is damaged below: two buffers at chance 0.5 on two inputs, and an AND that never flips. */
+static const uint8_t WHOLE[LENGTH] = {
+    1, BENCH_FLIP_CHANCE, 2, 0, 0, 0, 0, 0, 0, 0, 0, 0, 0, 0, 0, 0, 0, 0, 0xE0, 0x3F, /* gate 0 */
+    1, BENCH_FLIP_CHANCE, 2, 0, 1, 0, 0, 0, 0, 0, 0, 0, 0, 0, 0, 0, 0, 0, 0xE0, 0x3F, /* gate 1 */
+    2, BENCH_FLIP_NEVER,  8, 0, 2, 0, 3, 0, 0, 0, 0, 0, 0, 0, 0, 0, 0, 0, 0,    0,    /* gate 2 */
+    4, 0, 2, 0, 3, 0, 1, 0, 1, 0, 62, 0, 0, 0, 78, 0, 0, 0,
+};
+
+static uint32_t area[BENCH_WORDS_MAX];
+
+static void expect(const char *name, uint64_t answer, uint32_t number, uint32_t place) {
+    if (answer == ((uint64_t)number << 32 | place) && BENCH_NUMBER(answer) == number && BENCH_PLACE(answer) == place) return;
+    printf("header: %s: the library answers %u %u\n", name, BENCH_NUMBER(answer), BENCH_PLACE(answer));
+    exit(1);
+}
+
+/* Opens the image with two bytes changed, the low one first. */
+static uint64_t damaged(size_t at, uint16_t bytes) {
+    uint8_t image[LENGTH];
+    uint32_t live;
+    memcpy(image, WHOLE, LENGTH);
+    image[at] = bytes & 255;
+    image[at + 1] = bytes >> 8;
+    return bench_open(area, BENCH_WORDS_MAX, image, LENGTH, &live);
+}
+
+static void images(void) {
+    uint16_t kind = BENCH_FLIP_CHANCE << 8; /* stands beside the pin count */
+    expect("the whole image", damaged(0, 1 | kind), 0, 0);
+    expect("BENCH_PINS_MAX", damaged(GATE, BENCH_PINS_MAX | kind), 0, 0);
+    expect("BENCH_INPUTS_MAX", damaged(TRAILER, BENCH_INPUTS_MAX), 0, 0);
+    expect("BENCH_GATES_MAX", damaged(TRAILER + 2, BENCH_GATES_MAX), BENCH_REFUSED_BACK, 0);
+    expect("BENCH_OUTPUTS_MAX", damaged(TRAILER + 4, BENCH_OUTPUTS_MAX), BENCH_REFUSED_BACK, 0);
+    expect("BENCH_REFUSED_LENGTH", damaged(TRAILER + 12, LENGTH + 1), BENCH_REFUSED_LENGTH, 0);
+    expect("BENCH_REFUSED_FORMAT", damaged(TRAILER + 6, 2), BENCH_REFUSED_FORMAT, 0);
+    expect("too many inputs", damaged(TRAILER, BENCH_INPUTS_MAX + 1), BENCH_REFUSED_COUNTS, 0);
+    expect("too many gates", damaged(TRAILER + 2, BENCH_GATES_MAX + 1), BENCH_REFUSED_COUNTS, 0);
+    expect("too many outputs", damaged(TRAILER + 4, BENCH_OUTPUTS_MAX + 1), BENCH_REFUSED_COUNTS, 0);
+    expect("BENCH_REFUSED_BACK", damaged(TRAILER + 8, 61), BENCH_REFUSED_BACK, 0);
+    expect("BENCH_REFUSED_GATE", damaged(GATE, (BENCH_PINS_MAX + 1) | kind), BENCH_REFUSED_GATE, 1);
+    expect("BENCH_REFUSED_PIN", damaged(GATE + 4, 3), BENCH_REFUSED_PIN, 1);
+    expect("BENCH_REFUSED_FLIP", damaged(GATE, 1 | (BENCH_FLIP_STRIKE + 1) << 8), BENCH_REFUSED_FLIP, 1);
+    expect("BENCH_REFUSED_OUTPUT", damaged(OUTPUT, 5), BENCH_REFUSED_OUTPUT, 0);
+    expect("BENCH_REFUSED_SHARED", damaged(2 * GATE + 6, 2), BENCH_REFUSED_SHARED, 0);
+}
+
+static void calls(void) {
+    static uint8_t longest[BENCH_IMAGE_MAX + 1];
+    uint32_t weights[4] = {1, BENCH_WEIGHT_MAX, 1, 1}, live, units;
+    uint64_t strike = UINT64_C(0x3F0000003F800000); /* 1 times 0.5 */
+    expect("the whole image", damaged(OUTPUT, 4), 0, 0);
+    expect("BENCH_FLIP_STRIKE", bench_set_flip(area, BENCH_WORDS(3, 1), 0, BENCH_FLIP_STRIKE, strike), 0, 0);
+    expect("BENCH_WEIGHT_MAX", bench_average(area, BENCH_WORDS(3, 1), weights, 4, &units), 0, 0);
+    weights[1]++;
+    expect("BENCH_REFUSED_WEIGHTS", bench_average(area, BENCH_WORDS(3, 1), weights, 4, &units), BENCH_REFUSED_WEIGHTS, 1);
+    expect("BENCH_REFUSED_NAMED", bench_toggle_input(area, BENCH_WORDS(3, 1), 2), BENCH_REFUSED_NAMED, 2);
+    expect("BENCH_REFUSED_NEW_FLIP", bench_set_flip(area, BENCH_WORDS(3, 1), 0, BENCH_FLIP_NEVER, 1), BENCH_REFUSED_NEW_FLIP, 0);
+    expect("BENCH_REFUSED_SHORT_AREA", bench_toggle_input(area, BENCH_WORDS(3, 1) - 1, 0), BENCH_REFUSED_SHORT_AREA, 0);
+    memcpy(longest + BENCH_IMAGE_MAX - LENGTH, WHOLE, LENGTH);
+    longest[BENCH_IMAGE_MAX - 4] = BENCH_IMAGE_MAX & 255; /* the total */
+    longest[BENCH_IMAGE_MAX - 3] = BENCH_IMAGE_MAX >> 8;
+    expect("BENCH_IMAGE_MAX", bench_open(area, BENCH_WORDS_MAX, longest, BENCH_IMAGE_MAX, &live), 0, 0);
+    expect("BENCH_IMAGE_MAX", bench_open(area, BENCH_WORDS_MAX, longest, BENCH_IMAGE_MAX + 1, &live), BENCH_REFUSED_LENGTH, 0);
+    area[5] = 1;
+    expect("BENCH_REFUSED_AREA", bench_toggle_input(area, BENCH_WORDS(3, 1), 0), BENCH_REFUSED_AREA, 0);
+}
+
+int main(void) {
+    images();
+    calls();
+    printf("header: every name is the library's\n");
+    return 0;
+}
