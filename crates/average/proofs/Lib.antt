@@ -1,4 +1,2 @@
-pub mod Weights
-pub mod Walk
-pub mod Lanes
-pub mod Blocks
+pub mod WeightedSum
+pub mod BlockWords

@@ -1,3 +1,2 @@
-pub mod Weights
-pub mod Walk
+pub mod WeightedSum
 pub mod Blocks

@@ -1,25 +1,25 @@
-// The walk over all patterns of the call "average", on an area that keeps rule 14, and the test of the weights, refusal 12.
+// The walk over all patterns of the call "average", on an area that can be worked out, and the test of the weights, refusal 12.
 ghost use mathlib.Core.Path.{_≡_};
 ghost use Prim.Native.Nat.{ℕ, _+_, _/_, _<_, _≤_};
 ghost use lib.ListN.{length, getD};
-ghost use Rattle.lists.specs.Lists.{sumBelow};
-ghost use Rattle.rounding.specs.Rounding.{unitsInOne};
-ghost use Rattle.lanes.specs.Lanes.{laneWord};
-ghost use Rattle.area.specs.Layout.{inputs, gates, outputWords};
-ghost use Rattle.lists.specs.Lists.{allZero};
-ghost use Rattle.area.specs.Rules.{Sound};
-ghost use Rattle.area.specs.Figures.{productFrom};
-ghost use Rattle.work.specs.Work.{workAll};
+ghost use Rattle.lists.specs.Lists.{sumBelow, allZero};
 ghost use Rattle.refusal.specs.declared.Judgement.the-variants.{Fine};
-ghost use Rattle.calls.specs.Judgements.{weightsJudgement};
+ghost use Rattle.refusal.specs.Judgement.{lowest};
+ghost use Rattle.rounding.specs.Rounding.{unitsInOne};
+ghost use Rattle.area.specs.Layout as layout;
+ghost use Rattle.area.specs.Rules.{NetSound, Workable};
+ghost use Rattle.area.specs.Figures.{productFrom};
+ghost use Rattle.lanes.specs.Lanes.{laneCount, laneWords, laneWord};
+ghost use Rattle.work.specs.Work.{workAll};
+ghost use Rattle.calls.specs.Judgements.{weightJudgement, weightsJudgement, WeightsFit};
 ghost use Rattle.calls.specs.Calls.{averageOf};
-ghost use Rattle.average.specs.Weights.{weightsAnswer, FirstHeavy};
-ghost use Rattle.average.specs.Walk.{Fitting, weightedTo};
-ghost use Rattle.average.specs.Blocks.{ReadersOf, Block, OutputLanes};
+ghost use Rattle.average.specs.WeightedSum.{weightedTo, BlockAdds};
+ghost use Rattle.average.specs.Blocks.{ReadersOf, Block, OutputsFit, OutputLanes};
+use refusal::Judgement;
 
 // Refusal 12 by the weights themselves: the lowest that is too large.
 fn judge_each(weights: &[u32]) -> Judgement
-    requires { ⌜ length (now weights) ≤ mostPatterns ⌝ }
+    requires { ⌜ length (now weights) ≤ layout.mostPatterns ⌝ }
     ensures { λ r. ⌜ r ≡ lowest (weightJudgement (now (weights .entry))) (length (now (weights .entry))) ⌝ }
 {
     let mut q = 0;
@@ -47,7 +47,7 @@ fn all_zero(weights: &[u32]) -> bool
 
 // Refusal 12 in its order: the length, then the lowest weight that is too large, then no weight at all.
 pub fn judge_weights(inputs: usize, weights: &[u32]) -> Judgement
-    requires { ⌜ inputs ≤ mostInputs ⌝ }
+    requires { ⌜ inputs ≤ layout.mostInputs ⌝ }
     ensures { λ r. ⌜ r ≡ weightsJudgement inputs (now (weights .entry)) ⌝ }
 {
     if weights.len() != 1 << inputs {
@@ -65,7 +65,7 @@ pub fn judge_weights(inputs: usize, weights: &[u32]) -> Judgement
 }
 
 fn total_weight(weights: &[u32]) -> u64
-    requires { ⌜ length (now weights) ≤ 4096 ⌝ }
+    requires { ⌜ length (now weights) ≤ layout.mostPatterns ⌝ }
     ensures { λ r. ⌜ r ≡ sumBelow (length (now (weights .entry))) (λ q. getD (now (weights .entry)) q 0) ⌝ }
 {
     let mut total = 0;
@@ -78,19 +78,18 @@ fn total_weight(weights: &[u32]) -> u64
 }
 
 // The reliability in one lane: the product over the outputs in order.
-fn lane_reliability(lanes: &[u32; 8288], area: &[u32], l: usize) -> u64
-    requires { ⌜ Sound (now area) ⌝ }
-    requires { ⌜ l < 8 ⌝ }
-    requires { ⌜ ((k : ℕ) → k < length (outputWords (now area)) → laneWord (now lanes) l (getD (outputWords (now area)) k 0) / 2 ≤ unitsInOne) ⌝ }
-    ensures { λ r. ⌜ r ≡ productFrom (laneWord (now (lanes .entry)) l) unitsInOne (outputWords (now (area .entry))) ⌝ }
+fn lane_reliability(lanes: &[u32; lanes::LANE_WORDS], area: &[u32], lane: usize) -> u64
+    requires { ⌜ NetSound (now area) × (lane < laneCount) ⌝ }
+    requires { ⌜ OutputsFit (now area) (now lanes) lane ⌝ }
+    ensures { λ r. ⌜ r ≡ productFrom (laneWord (now (lanes .entry)) lane) unitsInOne (layout.outputWords (now (area .entry))) ⌝ }
     ensures { λ r. ⌜ r ≤ unitsInOne ⌝ }
 {
-    let start = 8 + 8 * area[1] as usize;
-    let count = area[2] as usize;
+    let start = area::outputs_index(area::gates(area));
+    let count = area::outputs(area);
     let mut reliability = rounding::UNITS_IN_ONE;
     let mut k = 0;
     while k < count {
-        let word = lanes[8 * area[start + k] as usize + l];
+        let word = lanes[lanes::LANES * area::index(area[start + k]) + lane];
         reliability = figure::output_step(reliability, (word / 2) as u64);
         k += 1;
     }
@@ -99,27 +98,27 @@ fn lane_reliability(lanes: &[u32; 8288], area: &[u32], l: usize) -> u64
 
 // Where the block of eight patterns from `first` on ends: the last may be shorter.
 fn block_end(first: usize, patterns: usize) -> usize
-    requires { ⌜ (first ≤ patterns) × (patterns ≤ 4096) ⌝ }
-    ensures { λ r. ⌜ (first ≤ r) × (r ≤ patterns) × (r < patterns → r ≡ first + 8) ⌝ }
+    requires { ⌜ (first ≤ patterns) × (patterns ≤ layout.mostPatterns) ⌝ }
+    ensures { λ r. ⌜ (first ≤ r) × (r ≤ patterns) × (r < patterns → r ≡ first + laneCount) ⌝ }
 {
-    if first + 8 < patterns {
-        first + 8
+    if first + lanes::LANES < patterns {
+        first + lanes::LANES
     } else {
         patterns
     }
 }
 
 // What the eight patterns from `first` on add to the weighted sum.
-fn block_sum(lanes: &[u32; 8288], area: &[u32], first: usize, weights: &[u32]) -> u64
-    requires { ⌜ Sound (now area) ⌝ }
-    requires { ⌜ Fitting (inputs (now area)) (now weights) ⌝ }
-    requires { ⌜ (first < length (now weights)) ⌝ }
+fn block_sum(lanes: &[u32; lanes::LANE_WORDS], area: &[u32], first: usize, weights: &[u32]) -> u64
+    requires { ⌜ Workable (now area) ⌝ }
+    requires { ⌜ WeightsFit (layout.inputs (now area)) (now weights) ⌝ }
+    requires { ⌜ first < length (now weights) ⌝ }
     requires { ⌜ OutputLanes (now area) (now lanes) first ⌝ }
-    ensures { λ r. ⌜ weightedTo (now (area .entry)) (now (weights .entry)) first + r ≡ weightedTo (now (area .entry)) (now (weights .entry)) (first + 8) ⌝ }
+    ensures { λ r. ⌜ BlockAdds (now (area .entry)) (now (weights .entry)) first r ⌝ }
 {
     let mut sum = 0;
     let mut l = 0;
-    while l < 8 {
+    while l < lanes::LANES {
         if first + l < weights.len() {
             sum += weights[first + l] as u64 * lane_reliability(lanes, area, l);
         }
@@ -129,20 +128,20 @@ fn block_sum(lanes: &[u32; 8288], area: &[u32], first: usize, weights: &[u32]) -
 }
 
 // The lanes' words for the eight patterns from `first` on: the inputs', then those of the live gates in order. No live gate or output reads a dead gate.
-fn work_block(lanes: &mut [u32; 8288], area: &[u32], readers: &[u32; 1036], first: usize)
-    requires { ⌜ Sound (now area) ⌝ }
+fn work_block(lanes: &mut [u32; lanes::LANE_WORDS], area: &[u32], readers: &[u32; area::MOST_SOURCES], first: usize)
+    requires { ⌜ Workable (now area) ⌝ }
     requires { ⌜ ReadersOf (now area) (now readers) ⌝ }
-    requires { ⌜ (first ≤ 4096) × (length (now lanes) ≡ 8288) ⌝ }
-    ensures { λ _. ⌜ Block (now (area .entry)) (now (readers .entry)) (now (lanes .exit)) first (gates (now (area .entry))) ⌝ }
-    ensures { λ _. ⌜ length (now (lanes .exit)) ≡ 8288 ⌝ }
+    requires { ⌜ (first ≤ layout.mostPatterns) × (length (now lanes) ≡ laneWords) ⌝ }
+    ensures { λ _. ⌜ Block (now (area .entry)) (now (readers .entry)) (now (lanes .exit)) first (layout.gates (now (area .entry))) ⌝ }
+    ensures { λ _. ⌜ length (now (lanes .exit)) ≡ laneWords ⌝ }
 {
-    let n = area[0] as usize;
-    let count = area[1] as usize;
+    let n = area::inputs(area);
+    let count = area::gates(area);
     lanes::input_lanes(lanes, n, first);
     let mut gate = 0;
     while gate < count {
         if 0 < readers[n + gate] {
-            lanes::work_row(lanes, area, n, 8 + 8 * gate, n + gate);
+            lanes::work_row(lanes, area, gate);
         }
         gate += 1;
     }
@@ -150,18 +149,18 @@ fn work_block(lanes: &mut [u32; 8288], area: &[u32], readers: &[u32; 1036], firs
 
 // What the eight patterns from `first` on add to the weighted sum, worked out unless none of them has a weight.
 fn weighted_block(
-    lanes: &mut [u32; 8288],
+    lanes: &mut [u32; lanes::LANE_WORDS],
     area: &[u32],
-    readers: &[u32; 1036],
+    readers: &[u32; area::MOST_SOURCES],
     first: usize,
     weights: &[u32],
 ) -> u64
-    requires { ⌜ Sound (now area) ⌝ }
+    requires { ⌜ Workable (now area) ⌝ }
     requires { ⌜ ReadersOf (now area) (now readers) ⌝ }
-    requires { ⌜ Fitting (inputs (now area)) (now weights) ⌝ }
-    requires { ⌜ (first < length (now weights)) × (length (now lanes) ≡ 8288) ⌝ }
-    ensures { λ r. ⌜ weightedTo (now (area .entry)) (now (weights .entry)) first + r ≡ weightedTo (now (area .entry)) (now (weights .entry)) (first + 8) ⌝ }
-    ensures { λ _. ⌜ length (now (lanes .exit)) ≡ 8288 ⌝ }
+    requires { ⌜ WeightsFit (layout.inputs (now area)) (now weights) ⌝ }
+    requires { ⌜ (first < length (now weights)) × (length (now lanes) ≡ laneWords) ⌝ }
+    ensures { λ r. ⌜ BlockAdds (now (area .entry)) (now (weights .entry)) first r ⌝ }
+    ensures { λ _. ⌜ length (now (lanes .exit)) ≡ laneWords ⌝ }
 {
     let end = block_end(first, weights.len());
     if all_zero(&weights[first..end]) {
@@ -173,25 +172,25 @@ fn weighted_block(
 
 // The weighted sum over all patterns, block by block. The area is only read: its words of figures may be those of another pattern.
 fn weighted_sum(area: &[u32], weights: &[u32]) -> u64
-    requires { ⌜ Sound (now area) ⌝ }
-    requires { ⌜ Fitting (inputs (now area)) (now weights) ⌝ }
+    requires { ⌜ Workable (now area) ⌝ }
+    requires { ⌜ WeightsFit (layout.inputs (now area)) (now weights) ⌝ }
     ensures { λ r. ⌜ r ≡ weightedTo (now (area .entry)) (now (weights .entry)) (length (now (weights .entry))) ⌝ }
 {
     let readers = live::count_readers(area);
-    let mut lanes = [0u32; 8288];
+    let mut lanes = [0u32; lanes::LANE_WORDS];
     let mut sum = 0;
     let mut first = 0;
     while first < weights.len() {
         sum += weighted_block(&mut lanes, area, &readers, first, weights);
-        first += 8;
+        first += lanes::LANES;
     }
     sum
 }
 
 // The weighted average of the reliability over all patterns; the area's figures are worked out afresh for its own pattern.
 pub fn average(area: &mut [u32], weights: &[u32]) -> u32
-    requires { ⌜ Sound (now area) ⌝ }
-    requires { ⌜ weightsJudgement (inputs (now area)) (now weights) ≡ Fine ⌝ }
+    requires { ⌜ Workable (now area) ⌝ }
+    requires { ⌜ weightsJudgement (layout.inputs (now area)) (now weights) ≡ Fine ⌝ }
     ensures { λ r. ⌜ r ≡ averageOf (now (area .entry)) (now (weights .entry)) ⌝ }
     ensures { λ _. ⌜ now (area .exit) ≡ workAll (now (area .entry)) ⌝ }
 {

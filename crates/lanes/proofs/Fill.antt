@@ -10,7 +10,7 @@ use Rattle.rounding.specs.Rounding.{unitsInOne}
 use Rattle.figure.specs.Figure.{failureOf}
 use Rattle.figure.specs.Steps.{Pin, firstPins, pinsWord}
 use Rattle.figure.proofs.Split.{pins-same}
-use Rattle.lanes.specs.Lanes.{laneWord, PinsReady, keptWord}
+use Rattle.lanes.specs.Lanes.{laneWord, PinsReady, keptWord, laneCount}
 
 -- the first l of n words are those of F
 abbrev pub Filled : ℕ → (ℕ → ℕ) → List ℕ → ℕ → Type 0
@@ -27,18 +27,18 @@ fill-turn n F words l word inv less e = (
 )
 
 -- the words of the kept pins read in lane l
-module _ (lanes starts : List ℕ) (kept : ℕ) (sources bits read : List ℕ) (l : ℕ) (less : l < 8)
+module _ (lanes starts : List ℕ) (kept : ℕ) (sources bits read : List ℕ) (l : ℕ) (less : l < laneCount)
     (same : (i : ℕ) → i < kept → getD read i 0 ≡ laneWord lanes l (getD sources i 0)) where
   -- their failures are at most U
   pub kept-failures : PinsReady lanes starts kept sources bits → (i : ℕ) → i < kept → failureOf (getD read i 0) ≤ unitsInOne
   kept-failures ready i h = rw (same i h) (ready .readable i h .failure l less)
 
   -- and the word made of them is stored
-  pub kept-turn : (table flip : ℕ) (words : List ℕ) (word : ℕ) → Filled 8 (keptWord lanes starts kept sources bits table flip) words l
+  pub kept-turn : (table flip : ℕ) (words : List ℕ) (word : ℕ) → Filled laneCount (keptWord lanes starts kept sources bits table flip) words l
       → word ≡ pinsWord unitsInOne table (getD starts l 0) (firstPins kept read bits) flip
-      → Filled 8 (keptWord lanes starts kept sources bits table flip) (set words l word) (l + 1)
+      → Filled laneCount (keptWord lanes starts kept sources bits table flip) (set words l word) (l + 1)
   kept-turn table flip words word inv made =
-      fill-turn 8 (keptWord lanes starts kept sources bits table flip) words l word inv less
+      fill-turn laneCount (keptWord lanes starts kept sources bits table flip) words l word inv less
       (made
       ∙ ap (λ (ps : List Pin). pinsWord unitsInOne table (getD starts l 0) ps flip)
       (pins-same 0 kept (λ i. laneWord lanes l (getD sources i 0)) (λ i. getD read i 0) (λ i. getD bits i 0) (λ i. getD bits i 0)

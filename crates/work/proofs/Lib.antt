@@ -2,4 +2,3 @@ pub mod Frame
 pub mod Pattern
 pub mod Sound
 pub mod Loops
-pub mod Pinned

@@ -1,4 +1,4 @@
--- `patterns::all_zero` meets its contract: what is left to test from q on decides. Assumes nothing.
+-- `average::all_zero` meets its contract: what is left to test from q on decides. Assumes nothing.
 use Prim.Native.Nat.{ℕ, _-_, _≤_}
 use mathlib.Core.Bool.{Bool}
 use mathlib.Core.Path.{_≡_, sym, _∙_}
@@ -7,14 +7,14 @@ use borrow.Author.Needs.{needs}
 use borrow.Author.Tests.{eq-eqb, ne-eqb}
 use lib.Dec.{eqb}
 use lib.ListN.{length, getD}
-use Rattle.lists.specs.Lists.{allZero}
-use Rattle.lists.proofs.Every.{from, passes-on, fails, ends, zero-part}
+use Rattle.lists.specs.Lists.{allZero, everyFrom}
+use Rattle.lists.proofs.Every.{passes-on, fails, ends, zero-part}
 use Rattle.average.proofs.all_zero.Statement.{statement}
 use Rattle.average.proofs.all_zero.Tie as tie
 
 abbrev Inv-loop : tie.InvT-loop
 Inv-loop weights q₀ q =
-    (q ≤ length weights) × (allZero weights ≡ from (λ k. eqb (getD weights k 0) 0) q (length weights - q))
+    (q ≤ length weights) × (allZero weights ≡ everyFrom (λ k. eqb (getD weights k 0) 0) q (length weights - q))
 
 abbrev μ-loop : tie.MeasureT-loop
 μ-loop weights q₀ q = length weights - q

@@ -1,18 +1,43 @@
--- `patterns::judge_weights` meets its contract: each test that fails decides, in the order of the refusal. Assumes nothing.
-use Prim.Native.Nat.{_^_}
+-- `average::judge_weights` meets its contract: each test that fails decides, in the order of the refusal. Assumes nothing.
+use Prim.Native.Nat.{ℕ, _*_, _%_, _^_, _≤_}
+use mathlib.Core.Bool.{Bool, true, false, not}
+use mathlib.Core.List.{List}
 use mathlib.Core.Path.{_≡_, sym, ap, _∙_}
+use native.Mathlib.Nat.{one-mul, mod-eq-of-lt}
 use native.Mathlib.Omega.{arith}
 use borrow.Author.Needs.{needs}
+use borrow.Author.Tests.{eq-eqb, ne-eqb}
+use lib.Dec.{eqb}
 use lib.ListN.{length}
 use lib.Pow.{pow-mono}
-use Rattle.average.specs.Weights.{weightsAnswer}
-use Rattle.average.proofs.Weights.{shifted, wrong-length, heavy-weight, no-weight, fine-weights}
+use Rattle.lists.specs.Lists.{allZero}
+use Rattle.refusal.specs.declared.Judgement.{Judgement}
+use Rattle.refusal.specs.declared.Judgement.the-variants.{Fine, Refused}
+use Rattle.refusal.specs.Judgement.{refuseUnless, otherwise, lowest}
+use Rattle.refusal.proofs.Laws.{otherwise-first}
+use Rattle.area.specs.Layout.{mostInputs}
+use Rattle.calls.specs.Judgements.{weightJudgement, weightsJudgement}
 use Rattle.average.proofs.judge_weights.Statement.{statement}
 use Rattle.average.proofs.judge_weights.Tie as tie
 
--- the length is that of a weight for each pattern
-right : (c : tie.Else1) → length (c .before .before .args .weights .now) ≡ 2 ^ c .before .before .args .inputs
-right c = c .if1 .left ∙ shifted (c .before .before .args .inputs) (c .before .before .pre)
+-- 1 shifted by n as the machine has it
+shifted : (n : ℕ) → n ≤ mostInputs → 1 * 2 ^ n % 2 ^ 64 ≡ 2 ^ n
+shifted n h = ap (λ (x : ℕ). x % 2 ^ 64) (one-mul (2 ^ n)) ∙ mod-eq-of-lt (omega (arith, pow-mono {i = n} {j = mostInputs} h))
+
+module _ (n : ℕ) (weights : List ℕ) where
+  wrong-length : (length weights ≡ 2 ^ n → ⊥) → weightsJudgement n weights ≡ Refused 12 0
+  unfolding weightsJudgement
+  wrong-length other = rw (ne-eqb (length weights) (2 ^ n) other)
+
+  -- of as many weights as patterns the lowest that is too large decides, then whether one counts
+  right-length : (v : Judgement) → length weights ≡ 2 ^ n → v ≡ lowest (weightJudgement weights) (length weights)
+      → weightsJudgement n weights ≡ otherwise v (refuseUnless (not (allZero weights)) 12 0)
+  unfolding weightsJudgement
+  right-length v e each = rw (eq-eqb (length weights) (2 ^ n) e, each)
+
+  none-heavy : (v : Judgement) (none : Bool) → length weights ≡ 2 ^ n → v ≡ lowest (weightJudgement weights) (length weights) → v ≡ Fine → allZero weights ≡ none
+      → refuseUnless (not none) 12 0 ≡ weightsJudgement n weights
+  none-heavy v none e each fine zero = sym (right-length v e each ∙ rw (fine, zero))
 
 shl-if1 : tie.Need-shl-if1
 shl-if1 c = search needs
@@ -20,40 +45,40 @@ shl-if1 c = search needs
 returns : tie.Need-returns
 returns c =
     let s = c .before .before in
-    let a = s .args in
-    sym (ap weightsAnswer (wrong-length (a .inputs) (a .weights .now) (λ e. c .if1 .taken (e ∙ sym (shifted (a .inputs) (s .pre))))))
+    sym (wrong-length (s .args .inputs) (s .args .weights .now) (λ e. c .if1 .taken (e ∙ sym (shifted (s .args .inputs) (s .pre)))))
 
-first-heavy-requires : tie.Need-first-heavy-requires
-first-heavy-requires c κs = search needs
+-- the length is that of a weight for each pattern
+right : (c : tie.Else1) → length (c .before .before .args .weights .now) ≡ 2 ^ c .before .before .args .inputs
+right c = c .if1 .left ∙ shifted (c .before .before .args .inputs) (c .before .before .pre)
 
-cast-t7 : tie.Need-cast-t7
-cast-t7 c =
-    let s = c .before .before .before .before in
-    omega (arith, right (c .before .before), pow-mono {i = s .args .inputs} {j = 12} (s .pre))
+judge-each-requires : tie.Need-judge-each-requires
+judge-each-requires c κs = omega (arith, right c, pow-mono {i = c .before .before .args .inputs} {j = mostInputs} (c .before .before .pre))
 
-returns-2 : tie.Need-returns-2
-returns-2 c =
-    let a = c .before .before .before .before .args in
-    sym (ap weightsAnswer (heavy-weight (a .inputs) (a .weights .now) (c .before .first-heavy .result) (right (c .before .before)) (c .before .first-heavy .ensures) (c .if2 .taken)))
+enum-told : tie.Need-enum-told
+enum-told c = search needs
 
 all-zero-requires : tie.Need-all-zero-requires
 all-zero-requires c κs = search needs
 
+returns-2 : tie.Need-returns-2
+returns-2 c =
+    let each = c .before .before .before .before in
+    none-heavy _ _ _ true (right (each .before)) (each .judge-each .ensures) (c .before .before .enum-told .given .1)
+    (sym (c .before .all-zero .ensures) ∙ c .if2 .taken)
+
+enum-known-number : tie.Need-enum-known-number
+enum-known-number c = search needs
+
 returns-3 : tie.Need-returns-3
 returns-3 c =
-    let a = c .before .before .before .before .before .before .args in
-    let first = c .before .before .before .first-heavy in
-    sym
-    (ap weightsAnswer
-    (no-weight (a .inputs) (a .weights .now) (first .result) (right (c .before .before .before .before)) (first .ensures) (c .before .before .if2 .left) (sym (c .before .all-zero .ensures) ∙ c .if3 .taken)))
+    let each = c .before .before .before .before in
+    none-heavy _ _ _ false (right (each .before)) (each .judge-each .ensures) (c .before .before .enum-told .given .1)
+    (sym (c .before .all-zero .ensures) ∙ c .if2 .left)
 
 returns-4 : tie.Need-returns-4
 returns-4 c =
-    let a = c .before .before .before .before .before .before .args in
-    let first = c .before .before .before .first-heavy in
-    sym
-    (ap weightsAnswer
-    (fine-weights (a .inputs) (a .weights .now) (first .result) (right (c .before .before .before .before)) (first .ensures) (c .before .before .if2 .left) (sym (c .before .all-zero .ensures) ∙ c .if3 .left)))
+    let each = c .before .before .before in
+    sym (right-length _ _ _ (right (each .before)) (each .judge-each .ensures) ∙ otherwise-first _ _ _ _ (c .before .number .given .1))
 
 pub judge-weights-spec : {M : Type 1} → statement M
 judge-weights-spec =
@@ -61,9 +86,10 @@ judge-weights-spec =
     (tie.spec
     shl-if1
     returns
-    first-heavy-requires
-    cast-t7
-    returns-2
+    judge-each-requires
+    enum-told
     all-zero-requires
+    returns-2
+    enum-known-number
     returns-3
     returns-4)

@@ -1,106 +1,107 @@
--- `patterns::lane_reliability` meets its contract: what is left of the outputs takes the product to its end. Assumes nothing.
-use Prim.Native.Nat.{ℕ, _+_, _-_, _*_, _/_, _≤_, _<_}
+-- `average::lane_reliability` meets its contract: what is left of the outputs takes the product to its end. Assumes nothing.
+use Prim.Native.Nat.{ℕ, _+_, _-_, _/_, _≤_, _<_}
 use mathlib.Core.List.{List}
-use mathlib.Core.Path.{_≡_, refl, sym, ap, _∙_}
+use mathlib.Core.Path.{_≡_, refl, sym, ap, subst, _∙_}
 use native.Mathlib.Omega.{arith}
 use borrow.Author.Needs.{needs}
 use lib.ListN.{length, getD, drop, drop-of-length-le}
 use Rattle.rounding.specs.Rounding.{unitsInOne}
 use Rattle.figure.specs.Figure.{outputStep, failureOf}
 use Rattle.figure.proofs.Laws.{output-at-most}
-use Rattle.area.specs.Layout.{mostSources, gates, outputsIndex, outputWords}
+use Rattle.area.specs.Layout.{mostSources, gates, outputs, outputsIndex, outputWords}
 use Rattle.area.specs.Figures.{productFrom}
-use Rattle.work.proofs.Sound.{output-below}
-use Rattle.work.proofs.Loops.{output-at, output-count, product-turn}
+use Rattle.area.proofs.Words.{output-at, output-count, output-below, few-sources}
 use Rattle.lanes.specs.Lanes.{laneWord}
+use Rattle.work.proofs.Loops.{product-turn}
 use Rattle.average.proofs.lane_reliability.Statement.{statement}
 use Rattle.average.proofs.lane_reliability.Tie as tie
 
 abbrev Inv-loop : tie.InvT-loop
-Inv-loop lanes area l start count reliability₀ k₀ reliability k =
-    (k ≤ count) × (reliability ≤ unitsInOne) × (productFrom (laneWord lanes l) reliability (drop k (outputWords area)) ≡ productFrom (laneWord lanes l) unitsInOne (outputWords area))
+Inv-loop lanes area lane start count reliability₀ k₀ reliability k =
+    (k ≤ count) × (reliability ≤ unitsInOne)
+    × (productFrom (laneWord lanes lane) reliability (drop k (outputWords area)) ≡ productFrom (laneWord lanes lane) unitsInOne (outputWords area))
 
 abbrev μ-loop : tie.MeasureT-loop
-μ-loop lanes area l start count reliability₀ k₀ reliability k = count - k
+μ-loop lanes area lane start count reliability₀ k₀ reliability k = count - k
 
--- the output that a turn reads
-here : (c : tie.In-loop Inv-loop μ-loop)
-    → getD (c .before .before .before .before .before .args .area .now) (outputsIndex (gates (c .before .before .before .before .before .args .area .now)) + c .before .loop .k) 0
-    ≡ getD (outputWords (c .before .before .before .before .before .args .area .now)) (c .before .loop .k) 0
-here c = output-at (c .before .before .before .before .before .args .area .now) (c .before .loop .k) (omega arith)
+gates-requires : tie.Need-gates-requires Inv-loop μ-loop
+gates-requires c κs = search needs
 
-below : (c : tie.In-loop Inv-loop μ-loop) → c .before .loop .k < length (outputWords (c .before .before .before .before .before .args .area .now))
-below c =
-    let s = c .before .before .before .before .before in
-    omega (arith, output-count (s .args .area .now) (s .pre .0))
+outputs-index-requires : tie.Need-outputs-index-requires Inv-loop μ-loop
+outputs-index-requires c κs = search needs
 
--- its place in the lanes
-read : (c : tie.In-loop Inv-loop μ-loop)
-    → getD (c .before .before .before .before .before .args .area .now) (outputsIndex (gates (c .before .before .before .before .before .args .area .now)) + c .before .loop .k) 0 < mostSources
-read c =
-    let s = c .before .before .before .before .before in
-    omega (arith, here c, output-below (s .args .area .now) (s .pre .0) (c .before .loop .k) (below c), s .pre .0 .inputs-fit, s .pre .0 .gates-fit)
-
--- its failure fits
-fits : (c : tie.In-loop Inv-loop μ-loop)
-    → laneWord (c .before .before .before .before .before .args .lanes .now) (c .before .before .before .before .before .args .l)
-    (getD (c .before .before .before .before .before .args .area .now) (outputsIndex (gates (c .before .before .before .before .before .args .area .now)) + c .before .loop .k) 0) / 2
-    ≤ unitsInOne
-fits c =
-    let s = c .before .before .before .before .before in
-    rw (here c) (s .pre .1 .1 (c .before .loop .k) (below c))
-
-shared-slice-read-start : tie.Need-shared-slice-read-start Inv-loop μ-loop
-shared-slice-read-start c = search needs
-
-cast-start : tie.Need-cast-start Inv-loop μ-loop
-cast-start c = search needs
-
-mul-start : tie.Need-mul-start Inv-loop μ-loop
-mul-start c = search needs
-
-add-start : tie.Need-add-start Inv-loop μ-loop
-add-start c = search needs
-
-shared-slice-read-count : tie.Need-shared-slice-read-count Inv-loop μ-loop
-shared-slice-read-count c = search needs
-
-cast-count : tie.Need-cast-count Inv-loop μ-loop
-cast-count c = search needs
+outputs-requires : tie.Need-outputs-requires Inv-loop μ-loop
+outputs-requires c κs = search needs
 
 loop-holds : tie.Need-loop-holds Inv-loop μ-loop
 loop-holds c = (omega arith, omega arith, refl)
 
-add-word : tie.Need-add-word Inv-loop μ-loop
-add-word c = search needs
+-- a turn's output
+module _ (c : tie.In-loop Inv-loop μ-loop) where
+  abbrev s : tie.Start Inv-loop μ-loop
+  s = c .before .before .before .before .before .before
+
+  abbrev ws : List ℕ
+  ws = s .args .area .now
+
+  abbrev k : ℕ
+  k = c .before .loop .k
+
+  first : c .before .before .before .outputs-index .result ≡ outputsIndex (gates ws)
+  first = c .before .before .before .outputs-index .ensures ∙ ap outputsIndex (c .before .before .before .before .gates .ensures)
+
+  used : k < outputs ws
+  used = omega (arith, c .before .before .outputs .ensures)
+
+  inside : k < length (outputWords ws)
+  inside = omega (arith, used, output-count ws (s .pre .0 .0))
+
+add-index : tie.Need-add-index Inv-loop μ-loop
+add-index c = omega (arith, first c, used c, s c .pre .0 .0 .gates-fit, s c .pre .0 .0 .outputs-fit)
+
+mul-index : tie.Need-mul-index Inv-loop μ-loop
+mul-index c = omega (arith, first c, used c, s c .pre .0 .0 .gates-fit, s c .pre .0 .0 .outputs-fit)
+
+shared-slice-read-index : tie.Need-shared-slice-read-index Inv-loop μ-loop
+shared-slice-read-index c = omega (arith, first (c .before), used (c .before), s (c .before) .pre .0 .0 .long)
+
+index-requires : tie.Need-index-requires Inv-loop μ-loop
+index-requires c κs = search needs
+
+-- the source that it reads, and that source's failure in the lane
+module _ (c : tie.After-index Inv-loop μ-loop) where
+  abbrev t : tie.In-loop Inv-loop μ-loop
+  t = c .before .before
+
+  abbrev word : ℕ → ℕ
+  word = laneWord (s t .args .lanes .now) (s t .args .lane)
+
+  here : c .index .result ≡ getD (outputWords (ws t)) (k t) 0
+  here = c .index .ensures ∙ ap (λ (x : ℕ). getD (ws t) (x + k t) 0) (first t) ∙ output-at (ws t) (k t) (used t)
+
+  read : c .index .result < mostSources
+  read = omega (arith, here, output-below (ws t) (s t .pre .0 .0) (k t) (inside t), few-sources (ws t) (s t .pre .0 .0))
+
+  fits : word (c .index .result) / 2 ≤ unitsInOne
+  fits = subst (λ (x : ℕ). word x / 2 ≤ unitsInOne) (sym here) (s t .pre .1 (k t) (inside t))
 
 mul-word : tie.Need-mul-word Inv-loop μ-loop
-mul-word c = search needs
+mul-word c = omega (arith, read c)
 
-shared-slice-read-word : tie.Need-shared-slice-read-word Inv-loop μ-loop
-shared-slice-read-word c = search needs
-
-cast-word : tie.Need-cast-word Inv-loop μ-loop
-cast-word c = omega (arith, read (c .before))
+add-word : tie.Need-add-word Inv-loop μ-loop
+add-word c = omega (arith, read c)
 
 mul-word-2 : tie.Need-mul-word-2 Inv-loop μ-loop
-mul-word-2 c = omega (arith, read (c .before))
-
-add-word-2 : tie.Need-add-word-2 Inv-loop μ-loop
-add-word-2 c = omega (arith, read (c .before))
-
-mul-word-3 : tie.Need-mul-word-3 Inv-loop μ-loop
-mul-word-3 c = omega (arith, read (c .before))
+mul-word-2 c = omega (arith, read c)
 
 element-copy-out-word : tie.Need-element-copy-out-word Inv-loop μ-loop
-element-copy-out-word c = omega (arith, read (c .before))
+element-copy-out-word c = omega (arith, read c)
 
 cast-output-step : tie.Need-cast-output-step Inv-loop μ-loop
-cast-output-step c = omega (arith, fits (c .before .before))
+cast-output-step c = omega (arith, fits (c .before))
 
 output-step-requires : tie.Need-output-step-requires Inv-loop μ-loop
-output-step-requires c κs =
-    (c .before .before .before .loop .inv .1, fits (c .before .before))
+output-step-requires c κs = (c .before .before .before .before .loop .inv .1, fits (c .before))
 
 add-k : tie.Need-add-k Inv-loop μ-loop
 add-k c = search needs
@@ -110,25 +111,24 @@ loop-less c = search needs
 
 loop-again : tie.Need-loop-again Inv-loop μ-loop
 loop-again c =
-    let s = c .before .before .before .before .before .before .before .before in
-    let l = c .before .before .before .before .loop in
-    let i = c .before .before .before in
-    let ws = s .args .area .now in
-    let lanes = s .args .lanes .now in
-    let e : c .output-step .result ≡ outputStep unitsInOne (l .reliability) (failureOf (laneWord lanes (s .args .l) (getD (outputWords ws) (l .k) 0))) =
-    c .output-step .ensures ∙ ap (λ (o : ℕ). outputStep unitsInOne (l .reliability) (failureOf (laneWord lanes (s .args .l) o))) (here i) in (
+    let at = c .before .before in
+    let l = c .before .before .before .before .before .loop in (
       omega arith,
-      rw (c .output-step .ensures) (output-at-most unitsInOne (omega arith) (l .reliability) _ (l .inv .1) (fits i)),
-      product-turn (laneWord lanes (s .args .l)) (outputWords ws) (l .k) (l .reliability) (c .output-step .result) (below i) e (l .inv .2),
+      rw (c .output-step .ensures) (output-at-most unitsInOne (omega arith) (l .reliability) _ (l .inv .1) (fits at)),
+      product-turn (word at) (outputWords (ws (t at))) (l .k) (l .reliability) (c .output-step .result) (inside (t at))
+          (c .output-step .ensures ∙ ap (λ (o : ℕ). outputStep unitsInOne (l .reliability) (failureOf (word at o))) (here at))
+          (l .inv .2),
     )
 
 returns : tie.Need-returns Inv-loop μ-loop
 returns c =
-    let s = c .before .before .before .before .before in
+    let s = c .before .before .before .before .before .before in
     let l = c .before .loop in
     let ws = s .args .area .now in
-    let past : length (outputWords ws) ≤ l .k = omega (arith, output-count ws (s .pre .0)) in
-    (sym (ap (productFrom (laneWord (s .args .lanes .now) (s .args .l)) (l .reliability)) (drop-of-length-le (outputWords ws) past)) ∙ l .inv .2, l .inv .1)
+    let past : length (outputWords ws) ≤ l .k = omega (arith, output-count ws (s .pre .0 .0), c .before .before .outputs .ensures) in (
+      sym (ap (productFrom (laneWord (s .args .lanes .now) (s .args .lane)) (l .reliability)) (drop-of-length-le (outputWords ws) past)) ∙ l .inv .2,
+      l .inv .1,
+    )
 
 pub lane-reliability-spec : {M : Type 1} → statement M
 lane-reliability-spec =
@@ -136,20 +136,17 @@ lane-reliability-spec =
     (tie.spec
     Inv-loop
     μ-loop
-    shared-slice-read-start
-    cast-start
-    mul-start
-    add-start
-    shared-slice-read-count
-    cast-count
+    gates-requires
+    outputs-index-requires
+    outputs-requires
     loop-holds
-    add-word
+    add-index
+    mul-index
+    shared-slice-read-index
+    index-requires
     mul-word
-    shared-slice-read-word
-    cast-word
+    add-word
     mul-word-2
-    add-word-2
-    mul-word-3
     element-copy-out-word
     cast-output-step
     output-step-requires

@@ -1,11 +1,11 @@
--- `patterns::total_weight` meets its contract: each weight is below 2^32, so the sum fits. Assumes nothing.
+-- `average::total_weight` meets its contract: each weight is below 2^32, so the sum fits. Assumes nothing.
 use Prim.Native.Nat.{ℕ, _-_, _*_, _≤_}
 use mathlib.Core.Path.{_≡_, refl, ap, _∙_}
 use native.Mathlib.Omega.{arith}
 use borrow.Author.Needs.{needs}
 use lib.ListN.{length, getD}
 use Rattle.lists.specs.Lists.{sumBelow}
-use Rattle.average.proofs.Walk.{sum-more}
+use Rattle.lists.proofs.Sums.{sum-more}
 use Rattle.average.proofs.total_weight.Statement.{statement}
 use Rattle.average.proofs.total_weight.Tie as tie
 

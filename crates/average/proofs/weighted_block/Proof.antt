@@ -1,19 +1,17 @@
--- `patterns::weighted_block` meets its contract. Assumes nothing.
-use Prim.Native.Nat.{ℕ, _+_, _≤_, _<_}
-use mathlib.Core.Path.{_≡_, sym, _∙_}
-use native.Mathlib.Nat.{add-zero}
+-- `average::weighted_block` meets its contract. Assumes nothing.
+use Prim.Native.Nat.{_≤_}
+use mathlib.Core.Path.{sym, _∙_}
 use native.Mathlib.Omega.{arith}
 use borrow.Author.Needs.{needs}
 use lib.ListN.{length}
-use Rattle.average.proofs.Walk.{length-small}
-use Rattle.average.proofs.Lanes.{block-outputs}
-use Rattle.average.proofs.Blocks.{weighted-none, block-empty}
+use Rattle.area.specs.Layout.{mostPatterns}
+use Rattle.average.proofs.WeightedSum.{few-weights, block-empty}
+use Rattle.average.proofs.BlockWords.{block-outputs}
 use Rattle.average.proofs.weighted_block.Statement.{statement}
 use Rattle.average.proofs.weighted_block.Tie as tie
 
--- there are at most 4,096 patterns
-few : (s : tie.Start) → length (s .args .weights .now) ≤ 4096
-few s = length-small (s .args .area .now) (s .args .weights .now) (s .pre .0) (s .pre .1 .1 .0)
+few : (s : tie.Start) → length (s .args .weights .now) ≤ mostPatterns
+few s = few-weights (s .args .area .now) (s .args .weights .now) (s .pre .0) (s .pre .1 .1 .0)
 
 block-end-requires : tie.Need-block-end-requires
 block-end-requires c κs = (omega (arith, c .before .before .pre .1 .1 .1 .0), few (c .before .before))
@@ -37,9 +35,8 @@ returns : tie.Need-returns
 returns c =
     let s = c .before .before .before .before .before .before in
     let end = c .before .before .before .block-end in (
-      add-zero _
-          ∙ weighted-none (s .args .area .now) (s .args .weights .now) (s .args .first)
-          (block-empty (s .args .weights .now) (s .args .first) (end .result) (end .ensures .0) (end .ensures .1) (end .ensures .2) (sym (c .before .all-zero .ensures) ∙ c .if1 .taken)),
+      block-empty (s .args .area .now) (s .args .weights .now) (s .args .first) (end .result) (end .ensures .0) (end .ensures .2)
+          (sym (c .before .all-zero .ensures) ∙ c .if1 .taken),
       s .pre .1 .1 .1 .1,
     )
 
@@ -50,13 +47,9 @@ work-block-requires c κs =
 
 block-sum-requires : tie.Need-block-sum-requires
 block-sum-requires c κs =
-    let s = c .before .before .before .before .before .before .before .before .before in (
-      s .pre .0,
-      (
-        s .pre .1 .1 .0,
-        (s .pre .1 .1 .1 .0, block-outputs (s .args .area .now) (s .args .readers .now) _ (s .args .first) (s .pre .0) (s .pre .1 .0) (c .before .work-block .ensures .0)),
-      ),
-    )
+    let s = c .before .before .before .before .before .before .before .before .before in
+    let there = block-outputs (s .args .area .now) (s .args .readers .now) (s .pre .0) (s .pre .1 .0) (s .args .first) _ (c .before .work-block .ensures .0) in
+    (s .pre .0, (s .pre .1 .1 .0, (s .pre .1 .1 .1 .0, there)))
 
 returns-2 : tie.Need-returns-2
 returns-2 c = (c .block-sum .ensures, c .before .before .work-block .ensures .1)

@@ -1,20 +1,20 @@
--- `patterns::weighted_sum` meets its contract: block after block, the sum over the patterns before it. Assumes nothing.
-use Prim.Native.Nat.{ℕ, _+_, _-_, _*_, _≤_, _<_}
-use mathlib.Core.Path.{_≡_, refl, sym, ap, _∙_}
+-- `average::weighted_sum` meets its contract: block after block, the sum over the patterns before it. Assumes nothing.
+use Prim.Native.Nat.{ℕ, _+_, _-_, _*_, _≤_}
+use mathlib.Core.Path.{_≡_, refl, ap, _∙_}
 use native.Mathlib.Omega.{arith}
 use borrow.Author.Needs.{needs}
 use lib.ListN.{length, length-replicate}
 use Rattle.rounding.specs.Rounding.{unitsInOne}
-use Rattle.area.specs.Layout.{largestWeight}
-use Rattle.average.specs.Walk.{weightedTo}
-use Rattle.average.proofs.Walk.{length-small}
-use Rattle.average.proofs.Blocks.{weighted-past, weighted-limit}
+use Rattle.area.specs.Layout.{mostPatterns, largestWeight}
+use Rattle.lanes.specs.Lanes.{laneCount, laneWords}
+use Rattle.average.specs.WeightedSum.{weightedTo}
+use Rattle.average.proofs.WeightedSum.{few-weights, weighted-past, weighted-limit}
 use Rattle.average.proofs.weighted_sum.Statement.{statement}
 use Rattle.average.proofs.weighted_sum.Tie as tie
 
 abbrev Inv-loop : tie.InvT-loop
 Inv-loop area weights readers lanes₀ sum₀ first₀ lanes sum first =
-    (first ≤ length weights + 7) × (length lanes ≡ 8288) × (sum ≡ weightedTo area weights first)
+    (first ≤ length weights + laneCount) × (length lanes ≡ laneWords) × (sum ≡ weightedTo area weights first)
 
 abbrev μ-loop : tie.MeasureT-loop
 μ-loop area weights readers lanes₀ sum₀ first₀ lanes sum first = length weights - first
@@ -24,7 +24,7 @@ count-readers-requires c κs = search needs
 
 loop-holds : tie.Need-loop-holds Inv-loop μ-loop
 unfolding weightedTo
-loop-holds c = (omega arith, length-replicate {A = ℕ} 8288 0, refl)
+loop-holds c = (omega arith, length-replicate {A = ℕ} laneWords 0, refl)
 
 weighted-block-requires : tie.Need-weighted-block-requires Inv-loop μ-loop
 weighted-block-requires c κs =
@@ -33,26 +33,24 @@ weighted-block-requires c κs =
     (s .pre .0, (a .before .count-readers .ensures, (s .pre .1, (omega arith, a .loop .inv .1))))
 
 -- the sum after one block more
-more : (c : tie.After-weighted-block Inv-loop μ-loop)
-    → c .before .before .before .before .loop .sum + c .weighted-block .result
-    ≡ weightedTo (c .before .before .before .before .before .before .before .before .args .area .now) (c .before .before .before .before .before .before .before .before .args .weights .now)
-    (c .before .before .before .before .loop .first + 8)
-more c =
-    let l = c .before .before .before .before .loop in
-    ap (λ (x : ℕ). x + c .weighted-block .result) (l .inv .2) ∙ c .weighted-block .ensures .0
+module _ (c : tie.After-weighted-block Inv-loop μ-loop) where
+  abbrev l : tie.At-loop Inv-loop μ-loop
+  l = c .before .before .before .before
 
-limit : (c : tie.After-weighted-block Inv-loop μ-loop) → c .before .before .before .before .loop .sum + c .weighted-block .result ≤ unitsInOne * (4096 * largestWeight)
-limit c =
-    let s = c .before .before .before .before .before .before .before .before in
-    rw (more c) (weighted-limit (s .args .area .now) (s .args .weights .now) _ (s .pre .0) (s .pre .1))
+  abbrev s : tie.Start Inv-loop μ-loop
+  s = c .before .before .before .before .before .before .before .before
+
+  more : l .loop .sum + c .weighted-block .result ≡ weightedTo (s .args .area .now) (s .args .weights .now) (l .loop .first + laneCount)
+  more = ap (λ (x : ℕ). x + c .weighted-block .result) (l .loop .inv .2) ∙ c .weighted-block .ensures .0
+
+  limit : l .loop .sum + c .weighted-block .result ≤ unitsInOne * (mostPatterns * largestWeight)
+  limit = omega (arith, more, weighted-limit (s .args .area .now) (s .args .weights .now) (s .pre .0) (s .pre .1) (l .loop .first + laneCount))
 
 add-sum : tie.Need-add-sum Inv-loop μ-loop
 add-sum c = omega (arith, limit c)
 
 add-first : tie.Need-add-first Inv-loop μ-loop
-add-first c =
-    let s = c .before .before .before .before .before .before .before .before in
-    omega (arith, length-small (s .args .area .now) (s .args .weights .now) (s .pre .0) (s .pre .1))
+add-first c = omega (arith, few-weights (s c .args .area .now) (s c .args .weights .now) (s c .pre .0) (s c .pre .1))
 
 loop-less : tie.Need-loop-less Inv-loop μ-loop
 loop-less c = omega arith

@@ -7,11 +7,12 @@ use borrow.Author.Needs.{needs}
 use lib.ListN.{getD}
 use Rattle.lanes.specs.Lanes.{laneWord}
 use Rattle.lanes.proofs.Fill.{Filled, fill-turn}
+use Rattle.area.specs.Layout.{mostPins}
 use Rattle.lanes.proofs.kept_words.Statement.{statement}
 use Rattle.lanes.proofs.kept_words.Tie as tie
 
 abbrev Inv-loop : tie.InvT-loop
-Inv-loop lanes kept lane sources words₀ i₀ words i = (i ≤ kept) × Filled 4 (λ (k : ℕ). laneWord lanes lane (getD sources k 0)) words i
+Inv-loop lanes kept lane sources words₀ i₀ words i = (i ≤ kept) × Filled mostPins (λ (k : ℕ). laneWord lanes lane (getD sources k 0)) words i
 
 abbrev μ-loop : tie.MeasureT-loop
 μ-loop lanes kept lane sources words₀ i₀ words i = kept - i
@@ -52,7 +53,7 @@ loop-less c = search needs
 loop-again : tie.Need-loop-again Inv-loop μ-loop
 loop-again c =
     let l = c .before .before .loop in
-    (omega arith, fill-turn 4 _ (l .words) (l .i) _ (l .inv .1) (omega arith) refl)
+    (omega arith, fill-turn mostPins _ (l .words) (l .i) _ (l .inv .1) (omega arith) refl)
 
 returns : tie.Need-returns Inv-loop μ-loop
 returns c = λ i less. c .before .loop .inv .1 .2 i (omega arith)

@@ -1,6 +1,7 @@
 -- `lanes::lane_words` meets its contract: in each arm of the match the count is known. Assumes nothing.
 use mathlib.Core.Path.{_≡_}
 use native.Mathlib.Omega.{arith}
+use Rattle.area.specs.Layout.{mostPins}
 use Rattle.lanes.proofs.lane_words.Statement.{statement}
 use Rattle.lanes.proofs.lane_words.Tie as tie
 
@@ -18,7 +19,7 @@ lanes-three-requires c κs = (c .before .pre .0 .1, rw (c .match .keys4) at (c .
 
 lanes-four-requires : tie.Need-lanes-four-requires
 lanes-four-requires c κs =
-    let all : c .before .args .kept ≡ 4 = omega arith in
+    let all : c .before .args .kept ≡ mostPins = omega arith in
     (c .before .pre .0 .1, rw all at (c .before .pre .1))
 
 returns : tie.Need-returns
@@ -35,7 +36,7 @@ returns-4 c = rw (c .before .match .keys4) (c .lanes-three .ensures)
 
 returns-5 : tie.Need-returns-5
 returns-5 c =
-    let all : c .before .before .args .kept ≡ 4 = omega arith in
+    let all : c .before .before .args .kept ≡ mostPins = omega arith in
     rw all (c .lanes-four .ensures)
 
 pub lane-words-spec : {M : Type 1} → statement M

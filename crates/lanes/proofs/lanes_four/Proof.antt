@@ -4,16 +4,16 @@ use mathlib.Core.Path.{refl}
 use native.Mathlib.Omega.{arith}
 use borrow.Author.Count.{below-none}
 use borrow.Author.Needs.{needs}
-use Rattle.lanes.specs.Lanes.{keptWord}
+use Rattle.lanes.specs.Lanes.{keptWord, laneCount}
 use Rattle.lanes.proofs.Fill.{Filled, kept-failures, kept-turn}
 use Rattle.lanes.proofs.lanes_four.Statement.{statement}
 use Rattle.lanes.proofs.lanes_four.Tie as tie
 
 abbrev Inv-loop : tie.InvT-loop
-Inv-loop lanes table flip sources bits starts words₀ l₀ words l = Filled 8 (keptWord lanes starts 4 sources bits table flip) words l
+Inv-loop lanes table flip sources bits starts words₀ l₀ words l = Filled laneCount (keptWord lanes starts 4 sources bits table flip) words l
 
 abbrev μ-loop : tie.MeasureT-loop
-μ-loop lanes table flip sources bits starts words₀ l₀ words l = 8 - l
+μ-loop lanes table flip sources bits starts words₀ l₀ words l = laneCount - l
 
 loop-holds : tie.Need-loop-holds Inv-loop μ-loop
 loop-holds c = (omega arith, refl, below-none _)

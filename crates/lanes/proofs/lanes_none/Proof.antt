@@ -9,14 +9,15 @@ use lib.ListN.{getD}
 use Rattle.rounding.specs.Rounding.{unitsInOne}
 use Rattle.figure.specs.Steps.{pinsWord}
 use Rattle.lanes.proofs.Fill.{Filled, fill-turn}
+use Rattle.lanes.specs.Lanes.{laneCount}
 use Rattle.lanes.proofs.lanes_none.Statement.{statement}
 use Rattle.lanes.proofs.lanes_none.Tie as tie
 
 abbrev Inv-loop : tie.InvT-loop
-Inv-loop table flip starts words₀ l₀ words l = Filled 8 (λ (m : ℕ). pinsWord unitsInOne table (getD starts m 0) [] flip) words l
+Inv-loop table flip starts words₀ l₀ words l = Filled laneCount (λ (m : ℕ). pinsWord unitsInOne table (getD starts m 0) [] flip) words l
 
 abbrev μ-loop : tie.MeasureT-loop
-μ-loop table flip starts words₀ l₀ words l = 8 - l
+μ-loop table flip starts words₀ l₀ words l = laneCount - l
 
 loop-holds : tie.Need-loop-holds Inv-loop μ-loop
 loop-holds c = (omega arith, refl, below-none _)
@@ -47,7 +48,7 @@ loop-less c = search needs
 loop-again : tie.Need-loop-again Inv-loop μ-loop
 loop-again c =
     let l = c .before .before .before .loop in
-    fill-turn 8 _ (l .words) (l .l) _ (l .inv) (omega arith) (c .word-none .ensures)
+    fill-turn laneCount _ (l .words) (l .l) _ (l .inv) (omega arith) (c .word-none .ensures)
 
 returns : tie.Need-returns Inv-loop μ-loop
 returns c = λ m less. c .before .loop .inv .2 m (omega arith)

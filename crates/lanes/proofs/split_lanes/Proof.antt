@@ -1,93 +1,101 @@
--- `lanes::split_lanes` meets its contract: in each lane the pins kept so far and those to come make the gate's word. Assumes nothing.
-use Prim.Native.Nat.{ℕ, _+_, _-_, _*_, _≤_, _<_}
+-- `lanes::split_lanes` meets its contract: each turn moves the lanes' starts by a pin that reads an input, and keeps any other. Assumes nothing.
+use Prim.Native.Nat.{ℕ, _-_, _≤_, _<_}
 use mathlib.Core.Logic.{⊎-elim}
-use mathlib.Core.Path.{_≡_, refl, sym, subst, _∙_}
+use mathlib.Core.Path.{_≡_, refl, ap}
 use native.Mathlib.Omega.{arith}
 use borrow.Author.Needs.{needs}
-use lib.ListN.{length, getD, replicate, length-set, getD-replicate}
-use Rattle.lanes.specs.Lanes.{Readable}
-use Rattle.lanes.proofs.Turn.{Going, going-first, going-last, going-start, going-room, going-input, going-kept, readable-more}
+use lib.ListN.{length, getD}
+use Rattle.lists.proofs.Parts.{zeros-at}
+use Rattle.area.specs.Layout.{mostPins, pinCount, pin}
+use Rattle.area.proofs.Words.{gate-inside}
+use Rattle.area.proofs.EachPin.{KeptPins, kept-none, kept-same, kept-more, Going, going-first, going-last, going-small, going-without, going-kept}
+use Rattle.lanes.specs.Lanes.{laneCount, laneWord, Readable}
 use Rattle.lanes.proofs.split_lanes.Statement.{statement}
 use Rattle.lanes.proofs.split_lanes.Tie as tie
 
 abbrev Inv-loop : tie.InvT-loop
-Inv-loop area lanes inputs base count kept₀ sources₀ bits₀ starts₀ bit₀ i₀ kept sources bits starts bit i =
-    (i ≤ count) × (kept ≤ i) × (length sources ≡ 4) × (length bits ≡ 4) × (length starts ≡ 8)
-    × ((k : ℕ) → k < kept → Readable lanes (getD sources k 0))
-    × ((l : ℕ) → l < 8 → Going area lanes base count l kept sources bits (getD starts l 0) bit i)
+Inv-loop area lanes gate inputs count kept₀ sources₀ bits₀ starts₀ bit₀ i₀ kept sources bits starts bit i =
+    (i ≤ count) × (length starts ≡ laneCount) × KeptPins (Readable lanes) kept sources bits i
+    × ((l : ℕ) → l < laneCount → Going (laneWord lanes l) (laneWord lanes l) area gate (getD starts l 0) kept sources bits bit i)
 
 abbrev μ-loop : tie.MeasureT-loop
-μ-loop area lanes inputs base count kept₀ sources₀ bits₀ starts₀ bit₀ i₀ kept sources bits starts bit i = count - i
+μ-loop area lanes gate inputs count kept₀ sources₀ bits₀ starts₀ bit₀ i₀ kept sources bits starts bit i = count - i
 
--- the bit of a turn's pin is small
-bit-room : (c : tie.In-loop Inv-loop μ-loop) → c .before .loop .bit ≤ 15
-bit-room c =
-    let s = c .before .before .before in
-    let l = c .before .loop in
-    going-room (s .args .area .now) (s .args .lanes .now) (s .args .base) (s .args .count) 0 (s .pre .0 .0) (s .pre .0 .1)
-    (l .kept) (l .sources) (l .bits) (getD (l .starts) 0 0) (l .bit) (l .i) (c .loop-test .taken) (l .inv .6 0 (omega arith))
+inputs-requires : tie.Need-inputs-requires Inv-loop μ-loop
+inputs-requires c κs = search needs
+
+pin-count-requires : tie.Need-pin-count-requires Inv-loop μ-loop
+pin-count-requires c κs = search needs
 
 loop-holds : tie.Need-loop-holds Inv-loop μ-loop
 loop-holds c =
-    let s = c .before in
-    let area = s .args .area .now in
-    let lanes = s .args .lanes .now in (
-      omega arith,
+    let s = c .before .before .before in (
       omega arith,
       refl,
-      refl,
-      refl,
-      (λ k less. absurd (omega arith)),
-      λ l less.
-          subst (λ (start : ℕ). Going area lanes (s .args .base) (s .args .count) l 0 (replicate 4 0) (replicate 4 0) start 1 0)
-          (sym (getD-replicate 8 l 0 0 less))
-          (going-first area lanes (s .args .base) (s .args .count) l (s .pre .0 .0) (s .pre .0 .1) (replicate 4 0) (replicate 4 0)),
+      kept-none refl refl,
+      λ l less. rw (zeros-at laneCount l) (going-first (s .pre .0 .0) (s .pre .0 .1)),
     )
 
-add-source : tie.Need-add-source Inv-loop μ-loop
-add-source c = search needs
+-- a turn's pin is used, and the bit and the starts are small
+module _ (c : tie.In-loop Inv-loop μ-loop) where
+  abbrev s : tie.Start Inv-loop μ-loop
+  s = c .before .before .before .before .before
 
-add-source-2 : tie.Need-add-source-2 Inv-loop μ-loop
-add-source-2 c = search needs
+  used : c .before .loop .i < pinCount (s .args .area .now) (s .args .gate)
+  used = omega (arith, c .before .before .pin-count .ensures)
 
-mul-source : tie.Need-mul-source Inv-loop μ-loop
-mul-source c = search needs
+  few : c .before .loop .i < mostPins
+  few = omega (arith, used, s .pre .0 .0 .gate (s .args .gate) (s .pre .0 .1) .pin-count)
 
-shared-slice-read-source : tie.Need-shared-slice-read-source Inv-loop μ-loop
-shared-slice-read-source c = search needs
+  small : (l : ℕ) → l < laneCount → (c .before .loop .bit ≤ 15) × (getD (c .before .loop .starts) l 0 ≤ 15)
+  small l less = going-small (s .pre .0 .0) (s .pre .0 .1) (c .before .loop .inv .3 l less) used
 
-cast-source : tie.Need-cast-source Inv-loop μ-loop
-cast-source c =
-    let s = c .before .before .before .before in
-    omega (arith, s .pre .1 .1 (c .before .before .loop .i) (omega arith) .inside)
+pin-requires : tie.Need-pin-requires Inv-loop μ-loop
+pin-requires c κs = (few c, gate-inside _ (s c .pre .0 .0) _ (s c .pre .0 .1))
+
+-- what it reads, and what is left after the turn
+module _ (c : tie.After-pin Inv-loop μ-loop) where
+  abbrev t : tie.Start Inv-loop μ-loop
+  t = s (c .before)
+
+  abbrev a : tie.At-loop Inv-loop μ-loop
+  a = c .before .before
+
+  abbrev read : ℕ → ℕ → ℕ
+  read = laneWord (t .args .lanes .now)
+
+  abbrev source : ℕ
+  source = c .pin .result
+
+  readable : Readable (t .args .lanes .now) source
+  readable = rw (c .pin .ensures) (t .pre .1 .1 (a .loop .i) (used (c .before)))
+
+  -- there is room for one more
+  room : a .loop .kept < mostPins
+  room = omega (arith, few (c .before), a .loop .inv .2 .few)
 
 add-input-requires : tie.Need-add-input-requires Inv-loop μ-loop
 add-input-requires c κs =
-    let s = c .before .before .before .before .before .before in
-    let l = c .before .before .before .before .loop in (
-      (s .pre .1 .1 (l .i) (omega arith) .inside, bit-room (c .before .before .before), l .inv .4),
-      λ k less.
-          going-start (s .args .area .now) (s .args .lanes .now) (s .args .base) (s .args .count) k (s .pre .0 .0) (s .pre .0 .1)
-          (l .kept) (l .sources) (l .bits) (getD (l .starts) k 0) (l .bit) (l .i) (omega arith) (l .inv .6 k less),
-    )
+    let turn = c .before .before in
+    ((readable turn .inside, small (turn .before) 0 (omega arith) .0, a turn .loop .inv .1), λ l less. small (turn .before) l less .1)
 
 mul-sources : tie.Need-mul-sources Inv-loop μ-loop
-mul-sources c = search needs
+mul-sources c = omega (arith, room (c .before))
 
 array-write-sources : tie.Need-array-write-sources Inv-loop μ-loop
-array-write-sources c = search needs
+array-write-sources c = omega (arith, room (c .before))
 
 mul-bits : tie.Need-mul-bits Inv-loop μ-loop
-mul-bits c = search needs
+mul-bits c = omega (arith, room (c .before))
 
 array-write-bits : tie.Need-array-write-bits Inv-loop μ-loop
-array-write-bits c = search needs
+array-write-bits c = omega (arith, room (c .before))
 
 add-kept : tie.Need-add-kept Inv-loop μ-loop
-add-kept c = search needs
+add-kept c = omega (arith, room (c .before))
 
 mul-bit : tie.Need-mul-bit Inv-loop μ-loop
-mul-bit c = omega (arith, bit-room (c .before .before))
+mul-bit c = omega (arith, small (c .before .before) 0 (omega arith) .0)
 
 add-i : tie.Need-add-i Inv-loop μ-loop
 add-i c = search needs
@@ -98,59 +106,38 @@ loop-less c = search needs
 -- a pin that reads an input moves the starts; any other is kept
 loop-again : tie.Need-loop-again Inv-loop μ-loop
 loop-again c =
-    let s = c .before .before .before .before .before in
+    let t = s (c .before .before) in
     let l = c .before .before .before .loop in
-    let area = s .args .area .now in
-    let lanes = s .args .lanes .now in
-    let source = getD area (s .args .base + 2 + l .i) 0 in
-    let inside : l .i < s .args .count = omega arith in
-    let few : s .args .count ≤ 4 = s .pre .0 .0 in
-    let long : s .args .base + 6 ≤ length area = s .pre .0 .1 in
+    let lanes = t .args .lanes .now in
+    let source = c .before .pin .result in
+    let read : source ≡ pin (t .args .area .now) (t .args .gate) (l .i) = c .before .pin .ensures in
+    let turn = used (c .before .before) in
     ⊎-elim
-    (λ w.
-    rw (w .3)
-    (rw (w .4)
-    (rw (w .5)
-    (rw (w .6) (
+    (λ w. rw (w .3, w .4, w .5, w .6) (
       omega arith,
-      omega arith,
-      l .inv .2,
-      l .inv .3,
       w .2 .ensures .1,
-      l .inv .5,
+      kept-same (l .inv .2),
       λ k less.
-          subst (λ (start : ℕ). Going area lanes (s .args .base) (s .args .count) k (l .kept) (l .sources) (l .bits) start (l .bit * 2) (l .i + 1))
-          (sym (w .2 .ensures .0 k less))
-          (going-input area lanes (s .args .base) (s .args .count) k few long (l .kept) (l .sources) (l .bits) (getD (l .starts) k 0)
-          (l .bit) (l .i) inside (l .inv .6 k less) source refl (s .pre .1 .0 source k (w .0 .taken) less)),
-    )))))
-    (λ w.
-    let m : l .kept < length (l .sources) = omega (arith, l .inv .2) in
-    let n : l .kept < length (l .bits) = omega (arith, l .inv .3) in
-    rw (w .1)
-    (rw (w .2)
-    (rw (w .3)
-    (rw (w .4) (
+          rw (w .2 .ensures .0 k less)
+          (going-without (t .pre .0 .0) (t .pre .0 .1) (l .inv .3 k less) turn (laneWord lanes k source) (ap (laneWord lanes k) read)
+          (t .pre .1 .0 source k (omega (arith, w .0 .taken, c .before .before .before .before .before .inputs .ensures)) less)),
+    ))
+    (λ w. rw (w .1, w .2, w .3, w .4) (
       omega arith,
-      omega arith,
-      length-set (l .sources) (l .kept) source ∙ l .inv .2,
-      length-set (l .bits) (l .kept) (l .bit) ∙ l .inv .3,
-      l .inv .4,
-      readable-more lanes (l .kept) (l .sources) source m (s .pre .1 .1 (l .i) inside) (l .inv .5),
+      l .inv .1,
+      kept-more (l .inv .2) source (l .bit) (few (c .before .before)) (readable (c .before)),
       λ k less.
-          going-kept area lanes (s .args .base) (s .args .count) k few long (l .kept) (l .sources) (l .bits) (getD (l .starts) k 0)
-          (l .bit) (l .i) inside (l .inv .6 k less) source refl m n,
-    )))))
+          going-kept (t .pre .0 .0) (t .pre .0 .1) (l .inv .3 k less) turn (l .inv .2) source (ap (laneWord lanes k) read),
+    ))
     (c .if1 .came)
 
 returns : tie.Need-returns Inv-loop μ-loop
 returns c =
-    let s = c .before .before .before in
-    let l = c .before .loop in (
-      (omega (arith, s .pre .0 .0), l .inv .5),
-      λ k less.
-          going-last (s .args .area .now) (s .args .lanes .now) (s .args .base) (s .args .count) k (s .pre .0 .0) (s .pre .0 .1)
-          (l .kept) (l .sources) (l .bits) (getD (l .starts) k 0) (l .bit) (l .i) (c .loop-test .left) (l .inv .6 k less),
+    let s = c .before .before .before .before .before in
+    let l = c .before .loop in
+    let count = c .before .before .pin-count .ensures in (
+      (omega (arith, l .inv .2 .few, count, s .pre .0 .0 .gate (s .args .gate) (s .pre .0 .1) .pin-count), l .inv .2 .each),
+      λ k less. going-last (s .pre .0 .0) (s .pre .0 .1) (l .inv .3 k less) (omega (arith, count)),
     )
 
 pub split-lanes-spec : {M : Type 1} → statement M
@@ -159,12 +146,10 @@ split-lanes-spec =
     (tie.spec
     Inv-loop
     μ-loop
+    inputs-requires
+    pin-count-requires
     loop-holds
-    add-source
-    add-source-2
-    mul-source
-    shared-slice-read-source
-    cast-source
+    pin-requires
     add-input-requires
     mul-sources
     array-write-sources

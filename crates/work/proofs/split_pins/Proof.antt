@@ -1,20 +1,21 @@
 -- `work::split_pins` meets its contract: each turn leaves out a pin that cannot fail or keeps it. Assumes nothing.
-use Prim.Native.Nat.{ℕ, _+_, _-_, _*_, _%_, _≤_, _<_}
+use Prim.Native.Nat.{ℕ, _+_, _-_, _/_, _≤_, _<_}
 use mathlib.Core.Logic.{⊎-elim}
 use mathlib.Core.Path.{_≡_, refl, ap, _∙_}
 use native.Mathlib.Omega.{arith}
 use borrow.Author.Needs.{needs}
-use lib.ListN.{set}
 use Rattle.figure.proofs.Under.{added}
 use Rattle.area.specs.Layout.{mostPins, inputs, gates, pinCount, pin, sourceWord}
 use Rattle.area.proofs.Words.{gate-inside, pin-below}
+use Rattle.area.proofs.EachPin.{KeptPins, kept-none, kept-same, kept-more, Going, going-first, going-last, going-small, going-without, going-kept}
 use Rattle.work.proofs.Sound.{source-word-fits}
-use Rattle.work.proofs.Pinned.{Pinned, pinned-first, pinned-last, pinned-small, pinned-without, pinned-kept}
+use Rattle.rounding.specs.Rounding.{unitsInOne}
 use Rattle.work.proofs.split_pins.Statement.{statement}
 use Rattle.work.proofs.split_pins.Tie as tie
 
 abbrev Inv-loop : tie.InvT-loop
-Inv-loop area gate count start₀ kept₀ words₀ bits₀ bit₀ i₀ start kept words bits bit i = (i ≤ count) × Pinned area gate start kept words bits bit i
+Inv-loop area gate count start₀ kept₀ words₀ bits₀ bit₀ i₀ start kept words bits bit i =
+    (i ≤ count) × KeptPins (λ w. w / 2 ≤ unitsInOne) kept words bits i × Going (sourceWord area) (λ w. w) area gate start kept words bits bit i
 
 abbrev μ-loop : tie.MeasureT-loop
 μ-loop area gate count start₀ kept₀ words₀ bits₀ bit₀ i₀ start kept words bits bit i = count - i
@@ -25,7 +26,7 @@ pin-count-requires c κs = gate-inside _ (c .before .pre .0 .net) _ (c .before .
 loop-holds : tie.Need-loop-holds Inv-loop μ-loop
 loop-holds c =
     let s = c .before .before in
-    (omega arith, pinned-first (s .args .area .now) (s .pre .0 .net) (s .args .gate) (s .pre .1) _ _ refl refl)
+    (omega arith, kept-none refl refl, going-first (s .pre .0 .net) (s .pre .1))
 
 -- a turn's pin is used
 module _ (c : tie.In-loop Inv-loop μ-loop) where
@@ -50,7 +51,7 @@ below c =
 source-word-requires : tie.Need-source-word-requires Inv-loop μ-loop
 source-word-requires c κs = (s (c .before) .pre .0, below c)
 
--- the index and the bit are small, and what is left after the turn
+-- its word; the index and the bit are small
 module _ (c : tie.After-source-word Inv-loop μ-loop) where
   abbrev t : tie.Start Inv-loop μ-loop
   t = s (c .before .before)
@@ -65,18 +66,10 @@ module _ (c : tie.After-source-word Inv-loop μ-loop) where
   read = c .source-word .ensures ∙ ap (sourceWord (t .args .area .now)) (c .before .pin .ensures)
 
   small : (a .loop .bit ≤ 15) × (a .loop .start ≤ 15)
-  small = pinned-small _ (t .pre .0 .net) _ (t .pre .1) _ _ _ _ _ _ (a .loop .inv .1) (used (c .before .before)) word read
+  small = going-small (t .pre .0 .net) (t .pre .1) (a .loop .inv .2) (used (c .before .before))
 
-  without : word < 2
-      → Pinned (t .args .area .now) (t .args .gate) (a .loop .start + word % 2 * a .loop .bit) (a .loop .kept) (a .loop .words) (a .loop .bits)
-      (a .loop .bit * 2) (a .loop .i + 1)
-  without = pinned-without _ (t .pre .0 .net) _ (t .pre .1) _ _ _ _ _ _ (a .loop .inv .1) (used (c .before .before)) word read
-
-  kept : Pinned (t .args .area .now) (t .args .gate) (a .loop .start) (a .loop .kept + 1) (set (a .loop .words) (a .loop .kept) word)
-      (set (a .loop .bits) (a .loop .kept) (a .loop .bit)) (a .loop .bit * 2) (a .loop .i + 1)
-  kept =
-      pinned-kept _ (t .pre .0 .net) _ (t .pre .1) _ _ _ _ _ _ (a .loop .inv .1) (used (c .before .before)) word read
-      (omega (arith, c .source-word .ensures, source-word-fits (t .args .area .now) (t .pre .0) (c .before .pin .result) (below (c .before))))
+  fits : word / 2 ≤ unitsInOne
+  fits = omega (arith, c .source-word .ensures, source-word-fits (t .args .area .now) (t .pre .0) (c .before .pin .result) (below (c .before)))
 
   -- there is room for one more
   room : a .loop .kept < mostPins
@@ -113,21 +106,30 @@ loop-less : tie.Need-loop-less Inv-loop μ-loop
 loop-less c = search needs
 
 loop-again : tie.Need-loop-again Inv-loop μ-loop
-loop-again c = (
-  omega arith,
-  ⊎-elim
-      (λ w. rw (w .1, w .2, w .3, w .4) (without (c .before) (w .0 .taken)))
-      (λ w. rw (w .1, w .2, w .3, w .4) (kept (c .before)))
-      (c .if1 .came),
-)
+loop-again c =
+    let turn = c .before in
+    let l = a turn .loop in
+    let pin = used (turn .before .before) in
+    ⊎-elim
+    (λ w. rw (w .1, w .2, w .3, w .4) (
+      omega arith,
+      kept-same (l .inv .1),
+      going-without (t turn .pre .0 .net) (t turn .pre .1) (l .inv .2) pin (word turn) (read turn) (omega (arith, w .0 .taken)),
+    ))
+    (λ w. rw (w .1, w .2, w .3, w .4) (
+      omega arith,
+      kept-more (l .inv .1) (word turn) (l .bit) (few (turn .before .before)) (fits turn),
+      going-kept (t turn .pre .0 .net) (t turn .pre .1) (l .inv .2) pin (l .inv .1) (word turn) (read turn),
+    ))
+    (c .if1 .came)
 
 returns : tie.Need-returns Inv-loop μ-loop
 returns c =
     let s = c .before .before .before .before in
     let l = c .before .loop in
     let count = c .before .before .pin-count .ensures in (
-      (omega (arith, l .inv .1 .few, count, s .pre .0 .net .gate (s .args .gate) (s .pre .1) .pin-count), l .inv .1 .failures),
-      pinned-last _ (s .pre .0 .net) _ (s .pre .1) _ _ _ _ _ _ (l .inv .1) (omega (arith, count)),
+      (omega (arith, l .inv .1 .few, count, s .pre .0 .net .gate (s .args .gate) (s .pre .1) .pin-count), l .inv .1 .each),
+      going-last (s .pre .0 .net) (s .pre .1) (l .inv .2) (omega (arith, count)),
     )
 
 pub split-pins-spec : {M : Type 1} → statement M
