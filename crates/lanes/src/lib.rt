@@ -116,7 +116,8 @@ fn kept_words(lanes: &[u32; 8288], sources: [usize; 4], kept: usize, lane: usize
     words
 }
 
-// A gate's words in all lanes where the first one, two, three and four pins of the arrays may fail.
+// A gate's words in all lanes where the first one, two, three and four pins of the arrays may fail. The bits are read one by one:
+// they have just been stored so, and a wider read would wait for the stores.
 fn lanes_one(
     lanes: &[u32; 8288],
     table: u32,
@@ -129,6 +130,7 @@ fn lanes_one(
     requires { ⌜ PinsReady (now lanes) (now starts) 1 sources bits ⌝ }
     ensures { λ r. ⌜ ((l : ℕ) → l < 8 → getD r l 0 ≡ keptWord (now (lanes .entry)) (now (starts .entry)) 1 sources bits table flip l) ⌝ }
 {
+    let bits = [bits[0], 0, 0, 0];
     let mut words = [0u32; 8];
     let mut l = 0;
     while l < 8 {
@@ -151,6 +153,7 @@ fn lanes_two(
     requires { ⌜ PinsReady (now lanes) (now starts) 2 sources bits ⌝ }
     ensures { λ r. ⌜ ((l : ℕ) → l < 8 → getD r l 0 ≡ keptWord (now (lanes .entry)) (now (starts .entry)) 2 sources bits table flip l) ⌝ }
 {
+    let bits = [bits[0], bits[1], 0, 0];
     let mut words = [0u32; 8];
     let mut l = 0;
     while l < 8 {
@@ -173,6 +176,7 @@ fn lanes_three(
     requires { ⌜ PinsReady (now lanes) (now starts) 3 sources bits ⌝ }
     ensures { λ r. ⌜ ((l : ℕ) → l < 8 → getD r l 0 ≡ keptWord (now (lanes .entry)) (now (starts .entry)) 3 sources bits table flip l) ⌝ }
 {
+    let bits = [bits[0], bits[1], bits[2], 0];
     let mut words = [0u32; 8];
     let mut l = 0;
     while l < 8 {
@@ -195,6 +199,7 @@ fn lanes_four(
     requires { ⌜ PinsReady (now lanes) (now starts) 4 sources bits ⌝ }
     ensures { λ r. ⌜ ((l : ℕ) → l < 8 → getD r l 0 ≡ keptWord (now (lanes .entry)) (now (starts .entry)) 4 sources bits table flip l) ⌝ }
 {
+    let bits = [bits[0], bits[1], bits[2], bits[3]];
     let mut words = [0u32; 8];
     let mut l = 0;
     while l < 8 {

@@ -10,10 +10,22 @@ use Rattle.lanes.proofs.lanes_four.Statement.{statement}
 use Rattle.lanes.proofs.lanes_four.Tie as tie
 
 abbrev Inv-loop : tie.InvT-loop
-Inv-loop lanes table flip sources bits starts words₀ l₀ words l = Filled 8 (keptWord lanes starts 4 sources bits table flip) words l
+Inv-loop lanes table flip sources starts bits words₀ l₀ words l = Filled 8 (keptWord lanes starts 4 sources bits table flip) words l
 
 abbrev μ-loop : tie.MeasureT-loop
-μ-loop lanes table flip sources bits starts words₀ l₀ words l = 8 - l
+μ-loop lanes table flip sources starts bits words₀ l₀ words l = 8 - l
+
+array-read-t14 : tie.Need-array-read-t14 Inv-loop μ-loop
+array-read-t14 c = search needs
+
+array-read-t17 : tie.Need-array-read-t17 Inv-loop μ-loop
+array-read-t17 c = search needs
+
+array-read-t20 : tie.Need-array-read-t20 Inv-loop μ-loop
+array-read-t20 c = search needs
+
+array-read-t23 : tie.Need-array-read-t23 Inv-loop μ-loop
+array-read-t23 c = search needs
 
 loop-holds : tie.Need-loop-holds Inv-loop μ-loop
 loop-holds c = (omega arith, refl, below-none _)
@@ -34,7 +46,7 @@ word-four-requires c κs =
     let less = c .before .before .loop-test .taken in
     let read = c .before .kept-words in (
       (s .pre .1 .fits l less, s .pre .0),
-      kept-failures (s .args .lanes .now) (s .args .starts .now) 4 (s .args .sources) (s .args .bits) (read .result) l less (read .ensures) (s .pre .1),
+      kept-failures (s .args .lanes .now) (s .args .starts .now) 4 (s .args .sources) (s .args .t5) (read .result) l less (read .ensures) (s .pre .1),
     )
 
 mul-words : tie.Need-mul-words Inv-loop μ-loop
@@ -54,7 +66,7 @@ loop-again c =
     let a = c .before .before .before .before .before .args in
     let l = c .before .before .before .before .loop in
     let read = c .before .before .kept-words in
-    kept-turn (a .lanes .now) (a .starts .now) 4 (a .sources) (a .bits) (read .result) (l .l) (omega arith) (read .ensures)
+    kept-turn (a .lanes .now) (a .starts .now) 4 (a .sources) (a .t5) (read .result) (l .l) (omega arith) (read .ensures)
     (a .table) (a .flip) (l .words) (c .word-four .result) (l .inv) (c .word-four .ensures)
 
 returns : tie.Need-returns Inv-loop μ-loop
@@ -66,6 +78,10 @@ lanes-four-spec =
     (tie.spec
     Inv-loop
     μ-loop
+    array-read-t14
+    array-read-t17
+    array-read-t20
+    array-read-t23
     loop-holds
     kept-words-requires
     mul-word-four
