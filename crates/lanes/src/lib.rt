@@ -199,7 +199,8 @@ fn lanes_four(
     requires { ⌜ PinsReady (now lanes) (now starts) 4 sources bits ⌝ }
     ensures { λ r. ⌜ ((l : ℕ) → l < 8 → getD r l 0 ≡ keptWord (now (lanes .entry)) (now (starts .entry)) 4 sources bits table flip l) ⌝ }
 {
-    let bits = [bits[0], bits[1], bits[2], bits[3]];
+    // four plain reads would be made one wide read; the last bit is below 16 as it is
+    let bits = [bits[0], bits[1], bits[2], bits[3] % 16];
     let mut words = [0u32; 8];
     let mut l = 0;
     while l < 8 {
