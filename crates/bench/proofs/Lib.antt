@@ -1,4 +1,1 @@
-pub mod Judged
-pub mod Copy
 pub mod Opening
-pub mod Weights

@@ -4,7 +4,7 @@ use mathlib.Core.Path.{_≡_, refl, ap, _∙_}
 use mathlib.Core.List.{List, _++_}
 use native.Mathlib.Omega.{arith}
 use lib.ListN.{length, take, drop}
-use Rattle.bench.proofs.Copy.{copy-turn, copied-length}
+use Rattle.lists.proofs.Parts.{copy-turn, copied-length}
 use borrow.Author.Needs.{needs}
 use Rattle.bench.proofs.copy_words.Statement.{statement}
 use Rattle.bench.proofs.copy_words.Tie as tie

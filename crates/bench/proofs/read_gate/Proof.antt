@@ -1,71 +1,49 @@
 -- `bench::read_gate` meets its contract. Assumes nothing.
-use mathlib.Core.Path.{_≡_, refl, _∙_}
+use mathlib.Core.Path.{_≡_, refl, sym, ap, _∙_}
 use native.Mathlib.Omega.{arith}
-use Rattle.area.specs.Layout.{gates}
-use Rattle.calls.specs.Judgements.{named}
-use Rattle.calls.specs.Judged.{gateJudgement}
-use Rattle.bench.proofs.Judged.{past-area, stopped, passed, named-below, named-past}
+use Rattle.area.specs.Layout.{inputs, gates, figure}
+use Rattle.calls.specs.Judgements.{read-gate}
+use Rattle.calls.proofs.Judgements.{lent-fine, gate-fine}
 use borrow.Author.Needs.{needs}
 use Rattle.bench.proofs.read_gate.Statement.{statement}
 use Rattle.bench.proofs.read_gate.Tie as tie
 
-area-refusal-requires : tie.Need-area-refusal-requires
-area-refusal-requires c κs = search needs
+judge-gate-requires : tie.Need-judge-gate-requires
+judge-gate-requires c κs = search needs
+
+enum-told : tie.Need-enum-told
+enum-told c = search needs
+
+index-requires : tie.Need-index-requires
+index-requires c κs = search needs
+
+figure-requires : tie.Need-figure-requires
+figure-requires c κs = 
+    let a = c .before .before .before .before .before .args in
+    let p = lent-fine (a .area .now) (read-gate (a .gate)) (sym (c .before .before .before .judge-gate .ensures) ∙ c .before .enum-told .given .1) in
+    omega (arith, c .index .ensures, p .0 .workable .net .long, gate-fine (inputs (a .area .now)) (gates (a .area .now)) (a .gate) (p .1))
+
+enum-known-number : tie.Need-enum-known-number
+enum-known-number c = search needs
 
 returns : tie.Need-returns
-unfolding gateJudgement
-returns c =
-    let a = c .before .before .before .args in
-    rw (stopped (a .area .now) (c .before .area-refusal .result) (c .before .area-refusal .ensures) (c .if1 .taken) (named (a .gate) (gates (a .area .now)))) refl
-
-shared-slice-read-if2 : tie.Need-shared-slice-read-if2
-shared-slice-read-if2 c =
-    let s = passed (c .before .before .before .before .args .area .now) _ (c .before .before .area-refusal .ensures) (c .before .if1 .left) in
-    omega (arith, s .long)
+returns c = 
+    let a = c .before .before .before .before .before .before .args in
+    let e = sym (c .before .before .before .before .judge-gate .ensures) ∙ c .before .before .enum-told .given .1 in
+    let word : c .figure .result ≡ figure (a .area .now) (a .gate) = c .figure .ensures ∙ ap (figure (a .area .now)) (c .before .index .ensures) in
+    rw (e, word) refl
 
 returns-2 : tie.Need-returns-2
-unfolding gateJudgement
-returns-2 c =
-    let a = c .before .before .before .before .before .args in
-    let s = passed (a .area .now) _ (c .before .before .before .area-refusal .ensures) (c .before .before .if1 .left) in
-    rw (past-area (a .area .now) s (named (a .gate) (gates (a .area .now))) ∙ named-past (a .gate) (gates (a .area .now)) (c .if2 .taken)) refl
-
-mul-word : tie.Need-mul-word
-mul-word c = search needs
-
-add-word : tie.Need-add-word
-add-word c = search needs
-
-add-word-2 : tie.Need-add-word-2
-add-word-2 c = search needs
-
-mul-word-2 : tie.Need-mul-word-2
-mul-word-2 c = search needs
-
-shared-slice-read-word : tie.Need-shared-slice-read-word
-shared-slice-read-word c =
-    let a = c .before .before .before .before .before .before .args in
-    let s = passed (a .area .now) _ (c .before .before .before .before .area-refusal .ensures) (c .before .before .before .if1 .left) in
-    omega (arith, s .long, c .before .if2 .left)
-
-returns-3 : tie.Need-returns-3
-unfolding gateJudgement
-returns-3 c =
-    let a = c .before .before .before .before .before .before .args in
-    let s = passed (a .area .now) _ (c .before .before .before .before .area-refusal .ensures) (c .before .before .before .if1 .left) in
-    rw (past-area (a .area .now) s (named (a .gate) (gates (a .area .now))) ∙ named-below (a .gate) (gates (a .area .now)) (c .before .if2 .left)) refl
+returns-2 c = rw (sym (c .before .before .before .judge-gate .ensures) ∙ c .before .number .given .1) refl
 
 pub read-gate-spec : {M : Type 1} → statement M
 read-gate-spec =
     tie.close
     (tie.spec
-    area-refusal-requires
+    judge-gate-requires
+    enum-told
+    index-requires
+    figure-requires
+    enum-known-number
     returns
-    shared-slice-read-if2
-    returns-2
-    mul-word
-    add-word
-    add-word-2
-    mul-word-2
-    shared-slice-read-word
-    returns-3)
+    returns-2)

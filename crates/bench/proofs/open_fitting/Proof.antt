@@ -1,0 +1,68 @@
+-- `bench::open_fitting` meets its contract. Assumes nothing.
+use Prim.Native.Nat.{ℕ, _≤_, _<_}
+use mathlib.Core.List.{List, _++_}
+use mathlib.Core.Path.{_≡_, refl, ap, ap₂, _∙_}
+use native.Mathlib.Omega.{arith}
+use lib.ListN.{length, take, drop}
+use Rattle.area.specs.Layout.{gates, outputs, needed}
+use Rattle.work.specs.Work.{workAll}
+use Rattle.calls.proofs.Judgements.{fine-room, short-room}
+use Rattle.bench.specs.Loaded.{loadedWords}
+use borrow.Author.Needs.{needs}
+use Rattle.bench.proofs.open_fitting.Statement.{statement}
+use Rattle.bench.proofs.open_fitting.Tie as tie
+
+gates-requires : tie.Need-gates-requires
+gates-requires c κs = search needs
+
+outputs-requires : tie.Need-outputs-requires
+outputs-requires c κs = search needs
+
+needed-requires : tie.Need-needed-requires
+needed-requires c κs = search needs
+
+returns : tie.Need-returns
+returns c = 
+    let a = c .before .before .before .before .before .before .args in
+    let ws = a .words .now in
+    let count : c .before .needed .result ≡ needed (gates ws) (outputs ws) = c .before .needed .ensures ∙ ap₂ needed (c .before .before .before .gates .ensures) (c .before .before .outputs .ensures) in
+    let short : length (a .area .now) < needed (gates ws) (outputs ws) = omega arith in
+    let e = short-room (gates ws) (outputs ws) (length (a .area .now)) short in
+    (rw e refl, rw e refl)
+
+copy-words-requires : tie.Need-copy-words-requires
+copy-words-requires c κs = search needs
+
+work-all-requires : tie.Need-work-all-requires
+work-all-requires c κs = 
+    let a = c .before .before .before .before .before .before .before .before .before .before .before .args in
+    let ws = a .words .now in
+    let count : c .before .before .before .before .before .before .needed .result ≡ needed (gates ws) (outputs ws) = c .before .before .before .before .before .before .needed .ensures ∙ ap₂ needed (c .before .before .before .before .before .before .before .before .gates .ensures) (c .before .before .before .before .before .before .before .outputs .ensures) in
+    rw (c .before .before .before .copy-words .ensures, count) (c .before .before .before .before .before .before .before .before .before .before .before .pre .1 (drop (needed (gates ws) (outputs ws)) (a .area .now)))
+
+same-length : tie.Need-same-length
+same-length c = search needs
+
+returns-2 : tie.Need-returns-2
+unfolding loadedWords
+returns-2 c = 
+    let a = c .before .before .before .before .before .before .before .before .before .before .before .before .before .before .args in
+    let ws = a .words .now in
+    let count : c .before .before .before .before .before .before .before .before .before .needed .result ≡ needed (gates ws) (outputs ws) = c .before .before .before .before .before .before .before .before .before .needed .ensures ∙ ap₂ needed (c .before .before .before .before .before .before .before .before .before .before .before .gates .ensures) (c .before .before .before .before .before .before .before .before .before .before .outputs .ensures) in
+    let room : needed (gates ws) (outputs ws) ≤ length (a .area .now) = omega arith in
+    let e = fine-room (gates ws) (outputs ws) (length (a .area .now)) room in
+    let copied = c .before .before .before .before .before .before .copy-words .ensures ∙ ap (λ (k : ℕ). take k ws ++ drop k (a .area .now)) count in
+    (rw e refl, rw e (c .before .before .work-all .ensures ∙ ap workAll copied))
+
+pub open-fitting-spec : {M : Type 1} → statement M
+open-fitting-spec =
+    tie.close
+    (tie.spec
+    gates-requires
+    outputs-requires
+    needed-requires
+    returns
+    copy-words-requires
+    work-all-requires
+    same-length
+    returns-2)
