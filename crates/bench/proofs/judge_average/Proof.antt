@@ -1,0 +1,55 @@
+-- `bench::judge_average` meets its contract. Assumes nothing.
+use mathlib.Core.Path.{sym, ap, _∙_}
+use Prim.Native.Nat.{ℕ}
+use native.Mathlib.Omega.{arith}
+use Rattle.rules.proofs.Sound.{sound}
+use Rattle.calls.specs.Judgements.{take-average, weightsJudgement, argumentJudgement}
+use Rattle.calls.proofs.Judgements.{lent-sound, lent-stopped}
+use borrow.Author.Needs.{needs}
+use Rattle.bench.proofs.judge_average.Statement.{statement}
+use Rattle.bench.proofs.judge_average.Tie as tie
+
+judge-requires : tie.Need-judge-requires
+judge-requires c κs = search needs
+
+enum-told : tie.Need-enum-told
+enum-told c = search needs
+
+inputs-requires : tie.Need-inputs-requires
+inputs-requires c κs = 
+    let s = sound (c .before .before .before .before .before .args .area .now) (sym (c .before .before .judge .ensures) ∙ c .enum-told .given .1) in
+    omega (arith, s .workable .net .long)
+
+judge-weights-requires : tie.Need-judge-weights-requires
+judge-weights-requires c κs = 
+    let s = sound (c .before .before .before .before .before .before .args .area .now) (sym (c .before .before .before .judge .ensures) ∙ c .before .enum-told .given .1) in
+    omega (arith, c .inputs .ensures, s .workable .net .inputs-fit)
+
+enum-known-number : tie.Need-enum-known-number
+enum-known-number c = search needs
+
+returns : tie.Need-returns
+unfolding argumentJudgement
+returns c = 
+    let a = c .before .before .before .before .before .before .before .args in
+    let s = sound (c .before .before .before .before .before .before .before .args .area .now) (sym (c .before .before .before .before .judge .ensures) ∙ c .before .before .enum-told .given .1) in
+    c .judge-weights .ensures
+    ∙ ap (λ (n : ℕ). weightsJudgement n (a .weights .now)) (c .before .inputs .ensures)
+    ∙ sym (lent-sound (a .area .now) (take-average (a .weights .now)) s)
+
+returns-2 : tie.Need-returns-2
+returns-2 c = 
+    let a = c .before .before .before .before .before .before .args in
+    sym (lent-stopped (a .area .now) (take-average (a .weights .now)) _ _ (sym (c .before .before .before .judge .ensures) ∙ c .before .number .given .1))
+
+pub judge-average-spec : {M : Type 1} → statement M
+judge-average-spec =
+    tie.close
+    (tie.spec
+    judge-requires
+    enum-told
+    inputs-requires
+    judge-weights-requires
+    enum-known-number
+    returns
+    returns-2)
