@@ -1,7 +1,5 @@
 -- What each answer of the library tells of its judgement and its result. Assumes nothing.
-use Prim.Native.Nat.{ℕ, _/_, _%_}
-use mathlib.Core.List.{List, [], _∷_}
-use Rattle.bench_c.specs.Codes.{fieldBytes}
+use Prim.Native.Nat.{ℕ}
 use mathlib.Core.Path.{_≡_, refl}
 use native.Mathlib.Omega.{arith}
 use lib.Ieee.{Float}
@@ -53,12 +51,3 @@ netlist-told Fine v w r e =
       λ a p f. cc,
     )
 netlist-told (Refused b q) v w r e = (λ m n x f. let z : _≡_ {A = ℕ} 0 1 = cc in absurd (omega arith), λ a p f. cc)
-
--- the bytes that the code takes from the number are the field's
-pub bytes-are : (x b0 b1 b2 b3 b4 b5 b6 b7 : ℕ)
-    → b0 ≡ x % 256 → b1 ≡ x / 256 % 256 → b2 ≡ x / 65_536 % 256 → b3 ≡ x / 16_777_216 % 256
-    → b4 ≡ x / 4_294_967_296 % 256 → b5 ≡ x / 1_099_511_627_776 % 256 → b6 ≡ x / 281_474_976_710_656 % 256
-    → b7 ≡ x / 72_057_594_037_927_936 % 256
-    → b0 ∷ b1 ∷ b2 ∷ b3 ∷ b4 ∷ b5 ∷ b6 ∷ b7 ∷ [] ≡ fieldBytes x
-unfolding fieldBytes
-bytes-are x b0 b1 b2 b3 b4 b5 b6 b7 e0 e1 e2 e3 e4 e5 e6 e7 = cc

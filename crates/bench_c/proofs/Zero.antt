@@ -1,7 +1,7 @@
 -- C tells a refusal from work done: no call gives a refusal whose code is 0. Assumes nothing.
 use Prim.Native.Nat.{ℕ, _<_}
 use mathlib.Core.List.{List}
-use mathlib.Core.Path.{_≡_, refl, sym, ap, _∙_}
+use mathlib.Core.Path.{_≡_, refl}
 use native.Mathlib.Omega.{arith}
 use lib.Dec.{leb}
 use lib.ListN.{length}
@@ -9,8 +9,8 @@ use Rattle.refusal.specs.declared.Judgement.{Judgement}
 use Rattle.refusal.specs.declared.Judgement.the-variants.{Fine, Refused}
 use Rattle.refusal.proofs.Laws.{Only, only-unless, only-otherwise}
 use Rattle.area.specs.Layout.{headWords, inputs, gates, outputs}
-use Rattle.area.specs.Rules.{countsInRange, restSound, roomJudgement, areaJudgement}
-use Rattle.calls.specs.Judgements.{Call, open-image, toggle-input, set-flip, read-netlist, read-gate, take-average, argumentJudgement, lentJudgement, judgement}
+use Rattle.area.specs.Rules.{countsInRange, restSound, areaJudgement}
+use Rattle.calls.specs.Judgements.{Call, open-image, toggle-input, set-flip, read-netlist, read-gate, take-average, lentJudgement, judgement}
 use Rattle.calls.proofs.Judgements.{only-room, only-arguments, only-open}
 use Rattle.bench_c.specs.Codes.{code}
 

@@ -24,7 +24,7 @@ FloatBy Fine units stood left = HasValue left false units unitsInOne
 FloatBy (Refused number place) units stood left = left ≡ stood
 
 -- the eight bytes of a flip's field, which C passes as one little-endian number
-unfoldable pub fieldBytes : ℕ → List ℕ
+abbrev pub fieldBytes : ℕ → List ℕ
 fieldBytes x =
     x % 256
     ∷ x / 256 % 256

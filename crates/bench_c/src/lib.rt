@@ -58,21 +58,29 @@ fn low_byte(x: u64) -> u8
     (x % 256) as u8
 }
 
-// Sets one gate's flip. C passes no array by value, so the eight bytes of the field come as one little-endian number.
+// The eight bytes of a flip's field: C passes no array by value, so they come as one little-endian number.
+fn field_bytes(field: u64) -> [u8; 8]
+    ensures { λ r. ⌜ r ≡ fieldBytes field ⌝ }
+{
+    [
+        low_byte(field),
+        low_byte(field / 256),
+        low_byte(field / 65_536),
+        low_byte(field / 16_777_216),
+        low_byte(field / 4_294_967_296),
+        low_byte(field / 1_099_511_627_776),
+        low_byte(field / 281_474_976_710_656),
+        low_byte(field / 72_057_594_037_927_936),
+    ]
+}
+
+// Sets one gate's flip.
 #[no_mangle]
 pub extern "C" fn bench_set_flip(area: &mut [u32], gate: u32, kind: u8, field: u64) -> u64
     ensures { λ r. ⌜ r ≡ code (judgement (now (area .entry)) (set-flip gate kind (fieldBytes field))) ⌝ }
     ensures { λ _. ⌜ now (area .exit) ≡ left (now (area .entry)) (set-flip gate kind (fieldBytes field)) ⌝ }
 {
-    let b0 = low_byte(field);
-    let b1 = low_byte(field / 256);
-    let b2 = low_byte(field / 65_536);
-    let b3 = low_byte(field / 16_777_216);
-    let b4 = low_byte(field / 4_294_967_296);
-    let b5 = low_byte(field / 1_099_511_627_776);
-    let b6 = low_byte(field / 281_474_976_710_656);
-    let b7 = low_byte(field / 72_057_594_037_927_936);
-    let answer = bench::set_flip(area, gate, kind, [b0, b1, b2, b3, b4, b5, b6, b7]);
+    let answer = bench::set_flip(area, gate, kind, field_bytes(field));
     match answer {
         FlipSet::Done => 0,
         FlipSet::Refused(number, place) => refused(number, place),
