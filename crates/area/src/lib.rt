@@ -16,6 +16,9 @@ pub const MOST_OUTPUTS: usize = 64;
 // Inputs and gates together.
 pub const MOST_SOURCES: usize = 1036;
 
+// 2^12.
+pub const MOST_PATTERNS: usize = 4096;
+
 // Words that the largest netlist needs.
 pub const MOST_WORDS: usize = 8264;
 

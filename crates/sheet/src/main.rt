@@ -2,15 +2,16 @@
 ghost use Prim.Native.Nat.{_≤_};
 ghost use mathlib.Core.Path.{_≡_};
 ghost use lib.ListN.{length};
+ghost use Rattle.area.specs.Layout.{mostInputs, mostPatterns, headWords};
 use bench::Averaged;
 use bench::NetlistRead;
 use bench::Opened;
 use libc::STDIN_FILENO;
 use libc::STDOUT_FILENO;
 
-fn print_word(text: &[u8], number: u32) {
+fn print_word(text: &[u8], number: u64) {
     io::write_all(STDOUT_FILENO, text);
-    io::print_decimal(STDOUT_FILENO, number as u64);
+    io::print_decimal(STDOUT_FILENO, number);
 }
 
 fn end_line() {
@@ -18,33 +19,37 @@ fn end_line() {
 }
 
 fn print_refused(number: u8, place: u32) {
-    print_word(b"refused ", number as u32);
-    print_word(b" ", place);
+    print_word(b"refused ", number as u64);
+    print_word(b" ", place as u64);
     end_line();
 }
 
-// An opened netlist has at most 12 inputs, so this takes nothing away: it bounds what is printed.
-fn at_most_twelve(inputs: u32) -> usize
-    ensures { λ r. ⌜ r ≤ 12 ⌝ }
+// An opened netlist has no more inputs than that, so this takes nothing away: it bounds what is printed.
+fn at_most(inputs: usize) -> usize
+    ensures { λ r. ⌜ r ≤ mostInputs ⌝ }
 {
-    if inputs < 12 { inputs as usize } else { 12 }
+    if inputs < area::MOST_INPUTS {
+        inputs
+    } else {
+        area::MOST_INPUTS
+    }
 }
 
 fn pattern_count(inputs: usize) -> usize
-    requires { ⌜ inputs ≤ 12 ⌝ }
-    ensures { λ r. ⌜ r ≤ 4096 ⌝ }
+    requires { ⌜ inputs ≤ mostInputs ⌝ }
+    ensures { λ r. ⌜ r ≤ mostPatterns ⌝ }
 {
     1 << inputs
 }
 
-// The values of twelve inputs as digits, input 0 first.
-fn spell_pattern(pattern: u32) -> [u8; 12]
-    ensures { λ r. ⌜ length r ≡ 12 ⌝ }
+// The values of the most inputs as digits, input 0 first.
+fn spell_pattern(pattern: u32) -> [u8; area::MOST_INPUTS]
+    ensures { λ r. ⌜ length r ≡ mostInputs ⌝ }
 {
-    let mut text = [b'0'; 12];
+    let mut text = [b'0'; area::MOST_INPUTS];
     let mut rest = pattern;
     let mut i = 0;
-    while i < 12 {
+    while i < area::MOST_INPUTS {
         text[i] = b'0' + (rest % 2) as u8;
         rest /= 2;
         i += 1;
@@ -53,7 +58,7 @@ fn spell_pattern(pattern: u32) -> [u8; 12]
 }
 
 fn print_pattern(pattern: u32, inputs: usize)
-    requires { ⌜ inputs ≤ 12 ⌝ }
+    requires { ⌜ inputs ≤ mostInputs ⌝ }
 {
     if inputs == 0 {
         io::write_all(STDOUT_FILENO, b"-");
@@ -65,7 +70,7 @@ fn print_pattern(pattern: u32, inputs: usize)
 
 // One line: the area's pattern and its reliability.
 fn print_reliability(area: &[u32], inputs: usize)
-    requires { ⌜ inputs ≤ 12 ⌝ }
+    requires { ⌜ inputs ≤ mostInputs ⌝ }
 {
     match bench::read_netlist(area) {
         NetlistRead::Done {
@@ -74,7 +79,7 @@ fn print_reliability(area: &[u32], inputs: usize)
             reliability: _,
         } => {
             print_pattern(pattern, inputs);
-            print_word(b" ", units);
+            print_word(b" ", units as u64);
             end_line();
         }
         NetlistRead::Refused(number, place) => print_refused(number, place),
@@ -83,7 +88,7 @@ fn print_reliability(area: &[u32], inputs: usize)
 
 // Goes on from pattern q to q + 1: toggles the inputs up to and with the lowest that is 0. After the last pattern comes pattern 0.
 fn next_pattern(area: &mut [u32], q: usize, inputs: usize)
-    requires { ⌜ inputs ≤ 12 ⌝ }
+    requires { ⌜ inputs ≤ mostInputs ⌝ }
 {
     let mut rest = q;
     let mut input = 0;
@@ -98,7 +103,7 @@ fn next_pattern(area: &mut [u32], q: usize, inputs: usize)
 }
 
 fn print_patterns(area: &mut [u32], inputs: usize)
-    requires { ⌜ inputs ≤ 12 ⌝ }
+    requires { ⌜ inputs ≤ mostInputs ⌝ }
 {
     let count = pattern_count(inputs);
     let mut q = 0;
@@ -109,31 +114,33 @@ fn print_patterns(area: &mut [u32], inputs: usize)
     }
 }
 
-fn equal_weights() -> [u32; 4096]
-    ensures { λ r. ⌜ 4096 ≡ length r ⌝ }
+fn equal_weights() -> [u32; area::MOST_PATTERNS]
+    ensures { λ r. ⌜ mostPatterns ≡ length r ⌝ }
 {
-    [1; 4096]
+    [1; area::MOST_PATTERNS]
 }
 
 fn print_average(area: &mut [u32], inputs: usize)
-    requires { ⌜ inputs ≤ 12 ⌝ }
+    requires { ⌜ inputs ≤ mostInputs ⌝ }
 {
     let weights = equal_weights();
     let count = pattern_count(inputs);
     match bench::average(area, &weights[..count]) {
         Averaged::Done(units) => {
-            print_word(b"average ", units);
+            print_word(b"average ", units as u64);
             end_line();
         }
         Averaged::Refused(number, place) => print_refused(number, place),
     }
 }
 
-fn print_counts(inputs: u32, gates: u32, outputs: u32, live: u32) {
-    print_word(b"inputs ", inputs);
-    print_word(b" gates ", gates);
-    print_word(b" outputs ", outputs);
-    print_word(b" live ", live);
+fn print_counts(area: &[u32], live: u32)
+    requires { ⌜ headWords ≤ length (now area) ⌝ }
+{
+    print_word(b"inputs ", area::inputs(area) as u64);
+    print_word(b" gates ", area::gates(area) as u64);
+    print_word(b" outputs ", area::outputs(area) as u64);
+    print_word(b" live ", live as u64);
     end_line();
 }
 
@@ -141,11 +148,11 @@ fn print_counts(inputs: u32, gates: u32, outputs: u32, live: u32) {
 fn main() {
     let mut image = [0u8; 32769];
     let length = io::read_full(STDIN_FILENO, &mut image);
-    let mut area = [0u32; 8264];
+    let mut area = [0u32; area::MOST_WORDS];
     match bench::open(&mut area, &image[..length]) {
         Opened::Done(live) => {
-            print_counts(area[0], area[1], area[2], live);
-            let inputs = at_most_twelve(area[0]);
+            print_counts(&area, live);
+            let inputs = at_most(area::inputs(&area));
             print_patterns(&mut area, inputs);
             print_average(&mut area, inputs);
         }
