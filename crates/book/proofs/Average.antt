@@ -15,8 +15,7 @@ use Rattle.lists.proofs.Sums.{sum-same, some-sum}
 use Rattle.bound.proofs.Average.{average-bound}
 use Rattle.area.specs.Layout.{inputs, gates, patternIndex, pattern, flipIndex, flip}
 use Rattle.work.specs.Work.{workAll}
-use Rattle.work.proofs.Frame.{same-gates, same-trans, same-store-pattern, same-work-all, work-all-other}
-use Rattle.work.proofs.Sound.{sound-store-pattern, sound-work-all}
+use Rattle.work.proofs.Frame.{same-gates, same-trans, same-store-pattern, same-work-all, work-all-flip, work-all-pattern}
 use Rattle.fresh.proofs.WorkAll.{work-all-fresh}
 use Rattle.fresh.proofs.Bridge.{reliability-holds}
 use Rattle.fresh.proofs.Calls.{frame-net}
@@ -25,6 +24,7 @@ use Rattle.book.specs.Book.{Book}
 use Rattle.book.specs.Statement.{AverageWithin}
 use Rattle.book.proofs.Agree.{Agree, chance-scale-positive, same-input-count, well-formed}
 use Rattle.calls.specs.Judgements.{WeightsFit}
+use Rattle.work.proofs.Sound.{net-same}
 
 -- weights that pass have a sum above 0
 pub total-positive : (net : Netlist) (weights : List ℕ) → WeightsFit (net .inputs) weights → 0 < totalWeight net weights
@@ -40,17 +40,15 @@ module _ (size : ℕ) (ws : List ℕ) (b : Book) (agree : Agree size ws b) where
       let chances = agree .chances in
       let stored = set ws patternIndex q in
       let after = workAll stored in
-      let sound = sound-store-pattern ws q (agree .sound) l in
+      let net = net-same ws stored (agree .sound .workable .net) (same-store-pattern ws q) in
       let same = same-trans ws stored after (same-store-pattern ws q) (same-work-all stored) in
-      let kept : pattern after ≡ q
-      = work-all-other stored 3 (λ e. omega arith) (λ j from to e. omega arith)
-      ∙ getD-set-same ws patternIndex q 0 (omega (arith, agree .sound .workable .net .long)) in
+      let kept : pattern after ≡ q = work-all-pattern stored ∙ getD-set-same ws patternIndex q 0 (omega (arith, agree .sound .workable .net .long)) in
       let flips : (j : ℕ) → j < gates after → flip after j ≡ toUnits unitsInOne chanceScale (getD chances j 0)
       = λ j k.
-      work-all-other stored (flipIndex j) (λ e. omega arith) (λ i from to e. omega arith)
+      work-all-flip stored j
       ∙ getD-set-other ws patternIndex (flipIndex j) q 0 (λ e. omega arith)
       ∙ agree .converted .flips j (omega (arith, same-gates ws after same)) in
-      reliability-holds chanceScale after kinds chances (sound-work-all stored sound) (work-all-fresh stored sound) (record { flips = flips })
+      reliability-holds chanceScale after kinds chances (net-same ws after (agree .sound .workable .net) same) (work-all-fresh stored net) (record { flips = flips })
       ∙ ap₂ (reliability unitsInOne chanceScale) (frame-net ws after kinds chances same ∙ agree .held) kept
 
   pub average-is : (weights : List ℕ) → averageOf ws weights ≡ averageUnits unitsInOne chanceScale (b .net) weights

@@ -13,7 +13,7 @@ use Rattle.chance.specs.Flip.{flipAccepted, flipChance}
 use Rattle.chance.proofs.Laws.{flip-chance-at-most, flip-units-at-most}
 use Rattle.netlist.specs.Netlist.{Netlist}
 use Rattle.netlist.specs.Live.{SingleReaders}
-use Rattle.area.specs.Layout.{inputs, gates, pattern}
+use Rattle.area.specs.Layout.{inputs, gates}
 use Rattle.work.specs.Work.{invertBit, toggleWords, setWords}
 use Rattle.work.proofs.Frame.{same-gates, same-toggle, same-set}
 use Rattle.work.proofs.Sound.{sound-toggle, sound-set}
@@ -32,7 +32,7 @@ use Rattle.book.proofs.Average.{average-within}
 use Rattle.book.proofs.Open.{opened}
 use Rattle.book.specs.Statement.{AnswerKept}
 use Rattle.calls.specs.Judgements.{Call, argumentJudgement, openJudgement}
-use Rattle.calls.proofs.Judgements.{named-fine, only-open, set-fine, weights-fine}
+use Rattle.calls.proofs.Judgements.{only-open, set-fine, weights-fine, toggle-fine}
 
 pub shown-open : (bs : List ℕ) → Shown (open-image bs)
 shown-open bs =
@@ -57,19 +57,18 @@ toggled i size ws b agree l =
       kind-each = omega (arith, agree .kind-each);
       chance-each = omega (arith, agree .chance-each);
       sound = sound-toggle ws i (agree .sound) l;
-      fresh = toggle-fresh ws i (agree .sound) (agree .fresh) l;
+      fresh = toggle-fresh ws i (agree .sound .workable .net) (agree .fresh) l;
       held = toggle-net ws i (agree .kinds) (agree .chances) ∙ agree .held;
       converted = toggle-converted chanceScale ws (agree .chances) i (agree .converted);
       chances-fit = λ j k. agree .chances-fit j (omega arith);
-      same-pattern = toggle-pattern ws i (agree .sound) ∙ ap (λ (q : ℕ). invertBit q i) (agree .same-pattern);
+      same-pattern = toggle-pattern ws i (agree .sound .workable .net) ∙ ap (λ (q : ℕ). invertBit q i) (agree .same-pattern);
       single = agree .single;
     }
 
 pub shown-toggle : (i : ℕ) → Shown (toggle-input i)
-unfolding argumentJudgement
 shown-toggle i =
     shown-lent (toggle-input i) (λ ws. refl) (λ b size. refl)
-    (record { agrees = λ size ws b agree e. toggled i size ws b agree (named-fine i (inputs ws) e); answers = λ size ws b agree e. tt })
+    (record { agrees = λ size ws b agree e. toggled i size ws b agree (toggle-fine (inputs ws) (gates ws) i e); answers = λ size ws b agree e. tt })
 
 -- ---- setting a flip
 
@@ -96,9 +95,9 @@ flip-set g kind field size ws b agree l accepted =
       kind-each = omega (arith, length-set (agree .kinds) g kind);
       chance-each = omega (arith, length-set (agree .chances) g chance);
       sound = sound-set ws g units (agree .sound) l fits;
-      fresh = set-fresh ws g units l (agree .sound) (agree .fresh) fits;
+      fresh = set-fresh ws g units l (agree .sound .workable .net) (agree .fresh);
       held = set-net ws g units l kinds chances ∙ entry;
-      converted = set-converted chanceScale ws (agree .chances) g chance (agree .sound) l (omega arith) (agree .converted);
+      converted = set-converted chanceScale ws (agree .chances) g chance (agree .sound .workable .net) l (omega arith) (agree .converted);
       chances-fit =
           λ j k.
           by-cases (ℕ-discrete j g)
@@ -147,6 +146,6 @@ shown-average weights =
     shown-lent (take-average weights) (λ ws. refl) (λ b size. refl)
     (record {
       agrees =
-          λ size ws b agree e. subst (λ (vs : List ℕ). Agree size vs b) (sym (fresh-fixed ws (agree .sound) (agree .fresh))) agree;
+          λ size ws b agree e. subst (λ (vs : List ℕ). Agree size vs b) (sym (fresh-fixed ws (agree .sound .workable .net) (agree .fresh))) agree;
       answers = λ size ws b agree e. average-within size ws b agree weights (weights-fine (inputs ws) weights e);
     })

@@ -49,7 +49,7 @@ opened bs ws e =
       kind-each = omega (arith, length-kinds bs);
       chance-each = omega (arith, length-chances bs);
       sound = sound-work-all before sound;
-      fresh = work-all-fresh before sound;
+      fresh = work-all-fresh before (sound .workable .net);
       held = frame-net before after (imageKinds bs) (imageChances bs) same ∙ image-net bs rest;
       converted = record { flips = λ j l. work-all-flip before j ∙ flips-at bs rest j (omega arith) };
       chances-fit = λ j l. chances-fit bs (accepted .image) j (omega arith);

@@ -1,17 +1,16 @@
 -- The refusals of the calls, walked once: what a call that is not refused knows of its arguments, and which numbers a call may give. Assumes nothing.
 use Prim.Native.Nat.{ℕ, _^_, _≤_, _<_}
-use mathlib.Core.Bool.{Bool, true, false, not}
+use mathlib.Core.Bool.{Bool, true, not}
 use mathlib.Core.List.{List}
-use mathlib.Core.Path.{_≡_, refl, sym, _∙_}
+use mathlib.Core.Path.{_≡_, refl}
 use native.Mathlib.Omega.{arith}
-use borrow.Author.Tests.{leb-true, ltb-true, eqb-true, not-true, lt-ltb, le-ltb}
+use borrow.Author.Tests.{leb-true, ltb-true, eqb-true, not-true, lt-ltb, le-ltb, le-leb, lt-leb}
 use lib.Dec.{leb, ltb, eqb}
 use lib.ListN.{length, getD}
 use Rattle.lists.specs.Lists.{allZero}
-use Rattle.refusal.specs.declared.Judgement.{Judgement}
 use Rattle.refusal.specs.declared.Judgement.the-variants.{Fine, Refused}
 use Rattle.refusal.specs.Judgement.{refuseUnless, otherwise, lowest}
-use Rattle.refusal.proofs.Laws.{unless-fine, otherwise-fine, otherwise-second, otherwise-first, lowest-fine}
+use Rattle.refusal.proofs.Laws.{unless-fine, otherwise-fine, otherwise-second, otherwise-first, lowest-fine, otherwise-assoc}
 use Rattle.refusal.proofs.Laws.{Only, BelowRule, only-fine, only-unless, only-otherwise, only-lowest}
 use Rattle.chance.specs.Flip.{flipAccepted}
 use Rattle.area.specs.Layout.{largestWeight, inputs, gates, needed}
@@ -24,7 +23,7 @@ use Rattle.image.specs.Refusals.{imageRefusal}
 use Rattle.image.specs.Netlist.{imageNet}
 use Rattle.image.proofs.Numbers.{only-image}
 use Rattle.calls.specs.Judgements.{Call, open-image, toggle-input, set-flip, read-netlist, read-gate, take-average}
-use Rattle.calls.specs.Judgements.{named, flipJudgement, weightJudgement, weightsJudgement, WeightsFit, openJudgement, argumentJudgement, lentJudgement, judgement}
+use Rattle.calls.specs.Judgements.{named, flipJudgement, weightJudgement, weightsJudgement, WeightsFit, openJudgement, argumentJudgement, lentJudgement}
 
 -- ---- 10, 11, 12, 13
 
@@ -40,6 +39,12 @@ named-past x count l = rw (le-ltb x count l) refl
 pub room-fine : (g k size : ℕ) → roomJudgement g k size ≡ Fine → needed g k ≤ size
 room-fine g k size e = leb-true (needed g k) size (unless-fine (leb (needed g k) size) 13 0 e)
 
+pub fine-room : (g k size : ℕ) → needed g k ≤ size → roomJudgement g k size ≡ Fine
+fine-room g k size l = rw (le-leb (needed g k) size l) refl
+
+pub short-room : (g k size : ℕ) → size < needed g k → roomJudgement g k size ≡ Refused 13 0
+short-room g k size l = rw (lt-leb (needed g k) size l) refl
+
 pub weights-fine : (n : ℕ) (weights : List ℕ) → weightsJudgement n weights ≡ Fine → WeightsFit n weights
 unfolding weightsJudgement
 weights-fine n weights e =
@@ -52,6 +57,14 @@ weights-fine n weights e =
     }
 
 -- ---- a call on an open area
+
+pub toggle-fine : (n g i : ℕ) → argumentJudgement n g (toggle-input i) ≡ Fine → i < n
+unfolding argumentJudgement
+toggle-fine n g i e = named-fine i n e
+
+pub gate-fine : (n g x : ℕ) → argumentJudgement n g (read-gate x) ≡ Fine → x < g
+unfolding argumentJudgement
+gate-fine n g x e = named-fine x g e
 
 pub set-fine : (n g x kind : ℕ) (field : List ℕ) → argumentJudgement n g (set-flip x kind field) ≡ Fine → (x < g) × (flipAccepted kind field ≡ true)
 unfolding argumentJudgement
@@ -73,6 +86,12 @@ lent-sound ws call s = otherwise-second (areaJudgement ws) (argumentJudgement (i
 pub lent-stopped : (ws : List ℕ) (call : Call) (a p : ℕ) → areaJudgement ws ≡ Refused a p → lentJudgement ws call ≡ Refused a p
 unfolding lentJudgement
 lent-stopped ws call a p e = otherwise-first (areaJudgement ws) (argumentJudgement (inputs ws) (gates ws) call) a p e
+
+-- setting a flip is judged as reading the gate, and then by the flip
+pub set-after-gate : (ws : List ℕ) (x kind : ℕ) (field : List ℕ)
+    → lentJudgement ws (set-flip x kind field) ≡ otherwise (lentJudgement ws (read-gate x)) (flipJudgement x kind field)
+unfolding lentJudgement argumentJudgement
+set-after-gate ws x kind field = otherwise-assoc (areaJudgement ws) (named x (gates ws)) (flipJudgement x kind field)
 
 -- ---- opening
 

@@ -3,7 +3,7 @@ use Prim.Native.Nat.{ℕ, _+_, _*_, _<_}
 use mathlib.Core.List.{List, _++_, append-assoc}
 use mathlib.Core.Path.{_≡_, refl, sym, ap, _∙_}
 use native.Mathlib.Omega.{arith}
-use lib.ListN.{getD, take, drop, List·getD-append}
+use lib.ListN.{getD, drop, List·getD-append}
 use lib.Seq.{drop-append-add, drop-at, take-at, getD-drop}
 use Rattle.area.specs.Layout.{headWords, inputs, gates, outputs, pattern}
 use Rattle.area.specs.Layout.{gateWords, gateIndex, pinCount, table, pinsIndex, pins, flipIndex, flip, figureIndex, figure, outputWords}

@@ -1,7 +1,7 @@
 -- Refusal 9 from a list of counts is the netlist's; where it does not apply, every gate has at most one reader. Assumes nothing.
 use Prim.Native.Nat.{ℕ, _+_}
 use mathlib.Core.List.{List, []}
-use mathlib.Core.Path.{_≡_, sym, ap, fun-ext, _∙_}
+use mathlib.Core.Path.{_≡_, sym, ap₂, fun-ext, _∙_}
 use native.Mathlib.Omega.{arith}
 use lib.Dec.{leb}
 use lib.ListN.{length, getD}
@@ -15,13 +15,21 @@ use Rattle.area.specs.Net.{netOf}
 use Rattle.area.proofs.Net.{gate-count, same-readers}
 use Rattle.live.specs.Shared.{gateShared, sharedBy, sharedJudgement}
 
--- whatever the kinds and chances are
+-- who reads whom is in the pins and outputs alone
+pub shared-same : (ws ks cs ls ds : List ℕ) → sharedJudgement (netOf ws ks cs) ≡ sharedJudgement (netOf ws ls ds)
+unfolding sharedJudgement
+shared-same ws ks cs ls ds =
+    ap₂ (λ (count : ℕ → ℕ) (gates : ℕ). sharedBy count (inputs ws) gates)
+    (fun-ext (same-readers ws ks cs ls ds))
+    (gate-count ws ks cs ∙ sym (gate-count ws ls ds))
+
+-- the counts' refusal is the netlist's, whatever the kinds and chances are
 pub shared-are : (ws xs : List ℕ) → ((s : ℕ) → getD xs s 0 ≡ readers (netOf ws [] []) s) → (kinds chances : List ℕ)
     → sharedBy (λ s. getD xs s 0) (inputs ws) (gates ws) ≡ sharedJudgement (netOf ws kinds chances)
 unfolding sharedJudgement
 shared-are ws xs counted kinds chances =
-    ap (λ (count : ℕ → ℕ). sharedBy count (inputs ws) (gates ws)) (fun-ext (λ s. counted s ∙ same-readers ws [] [] kinds chances s))
-    ∙ ap (sharedBy (readers (netOf ws kinds chances)) (inputs ws)) (sym (gate-count ws kinds chances))
+    ap₂ (λ (count : ℕ → ℕ) (gates : ℕ). sharedBy count (inputs ws) gates) (fun-ext counted) (sym (gate-count ws [] []))
+    ∙ shared-same ws [] [] kinds chances
 
 pub shared-single : (net : Netlist) → sharedJudgement net ≡ Fine → SingleReaders net
 unfolding sharedJudgement SingleReaders

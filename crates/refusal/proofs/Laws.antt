@@ -34,6 +34,11 @@ otherwise-second v w e = rw e
 pub otherwise-first : (v w : Judgement) (a p : ℕ) → v ≡ Refused a p → otherwise v w ≡ Refused a p
 otherwise-first v w a p e = rw e
 
+-- which parts are taken together does not matter
+pub otherwise-assoc : (u v w : Judgement) → otherwise u (otherwise v w) ≡ otherwise (otherwise u v) w
+otherwise-assoc Fine v w = refl
+otherwise-assoc (Refused a p) v w = refl
+
 module _ (f : ℕ → Judgement) where
   -- one place more without a refusal
   pub lowest-more : (j : ℕ) → lowest f j ≡ Fine → f j ≡ Fine → lowest f (j + 1) ≡ Fine

@@ -1,6 +1,5 @@
 -- `image::load_gate` meets its contract: the first of the three tests that fails decides, and a gate that passes is stored. Assumes nothing.
 use Prim.Native.Nat.{_+_}
-use mathlib.Core.Bool.{true}
 use mathlib.Core.Path.{_≡_, sym, ap₂, _∙_}
 use lib.Seq.{sets}
 use denote.Ref.{now}

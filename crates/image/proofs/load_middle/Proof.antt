@@ -4,7 +4,7 @@ use denote.Ref.{now}
 use borrow.Author.Needs.{needs}
 use Rattle.refusal.specs.Judgement.{lowest}
 use Rattle.refusal.proofs.Laws.{otherwise-second}
-use Rattle.image.specs.Refusals.{gateRefusal, outputRefusal, middleRefusal}
+use Rattle.image.specs.Refusals.{gateRefusal, middleRefusal}
 use Rattle.image.proofs.Passed.{first-refused}
 use Rattle.image.proofs.Middle.{middle-words}
 use Rattle.image.proofs.load_middle.Statement.{statement}
