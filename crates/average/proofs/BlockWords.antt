@@ -1,6 +1,6 @@
 -- The words of a block: those worked out for a pattern, what live gates read, and the lanes gate by gate up to the outputs. Assumes nothing.
 use Prim.Native.Nat.{ℕ, suc, _+_, _-_, _/_, _%_, _^_, _≤_, _<_}
-use mathlib.Core.List.{List, [], map}
+use mathlib.Core.List.{List, []}
 use mathlib.Core.Path.{_≡_, refl, sym, ap, subst, _∙_}
 use native.Mathlib.Nat.{mod-lt, mod-eq-of-lt}
 use native.Mathlib.Omega.{arith}
@@ -16,7 +16,7 @@ use Rattle.figure.specs.Figure.{gateWord, failureOf}
 use Rattle.netlist.specs.Netlist.{gateAt}
 use Rattle.netlist.specs.Live.{output-reads, gate-reads}
 use Rattle.netlist.proofs.Live.{live-readers, readers-live}
-use Rattle.area.specs.Layout.{inputs, gates, patternIndex, pinCount, table, pin, flipIndex, flip, usedPins, outputWords, sourceWord}
+use Rattle.area.specs.Layout.{inputs, gates, patternIndex, table, flipIndex, flip, usedPins, outputWords, sourceWord}
 use Rattle.area.specs.Rules.{NetSound, Workable}
 use Rattle.area.specs.Figures.{gateWordFrom, productFrom}
 use Rattle.area.specs.Net.{netOf}
@@ -24,8 +24,8 @@ use Rattle.area.proofs.Words.{used-count, used-pin, used-below, output-below, f
 use Rattle.area.proofs.Net.{gate-at, gate-count, sound-pins}
 use Rattle.lanes.specs.Lanes.{laneCount, laneWord, InputLanes, RowStored, InputsSure, PinsReadable}
 use Rattle.work.specs.Work.{gateFigure, reliabilityNow, workAll}
-use Rattle.work.proofs.Frame.{SameFrame, same-inputs, same-gates, same-table, same-trans, same-used-pins, same-output-words, same-store-pattern, same-work-all}
-use Rattle.work.proofs.Frame.{work-all-pattern, work-all-flip}
+use Rattle.work.proofs.Frame.{SameFrame, same-inputs, same-gates, same-table, same-trans, same-used-pins, same-output-words, same-store-pattern}
+use Rattle.work.proofs.Frame.{same-work-all, work-all-pattern, work-all-flip}
 use Rattle.work.proofs.Sound.{net-same, workable-store-pattern, workable-work-all, source-word-fits}
 use Rattle.fresh.specs.Fresh.{Fresh}
 use Rattle.fresh.proofs.Sources.{source-input, source-gate, source-cases, product-same}

@@ -128,7 +128,12 @@ fn block_sum(lanes: &[u32; lanes::LANE_WORDS], area: &[u32], first: usize, weigh
 }
 
 // The lanes' words for the eight patterns from `first` on: the inputs', then those of the live gates in order. No live gate or output reads a dead gate.
-fn work_block(lanes: &mut [u32; lanes::LANE_WORDS], area: &[u32], readers: &[u32; area::MOST_SOURCES], first: usize)
+fn work_block(
+    lanes: &mut [u32; lanes::LANE_WORDS],
+    area: &[u32],
+    readers: &[u32; area::MOST_SOURCES],
+    first: usize,
+)
     requires { ⌜ Workable (now area) ⌝ }
     requires { ⌜ ReadersOf (now area) (now readers) ⌝ }
     requires { ⌜ (first ≤ layout.mostPatterns) × (length (now lanes) ≡ laneWords) ⌝ }

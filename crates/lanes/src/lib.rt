@@ -125,7 +125,8 @@ fn kept_words(
     words
 }
 
-// A gate's words in all lanes where the first one, two, three and four pins of the arrays may fail.
+// A gate's words in all lanes where the first one, two, three and four pins of the arrays may fail. The bits are read one by one: they have just been
+// stored so, and a wider read would wait for the stores.
 fn lanes_one(
     lanes: &[u32; LANE_WORDS],
     table: u32,
@@ -138,6 +139,7 @@ fn lanes_one(
     requires { ⌜ PinsReady (now lanes) (now starts) 1 sources bits ⌝ }
     ensures { λ r. ⌜ EachLane r (keptWord (now (lanes .entry)) (now (starts .entry)) 1 sources bits table flip) ⌝ }
 {
+    let bits = [bits[0], 0, 0, 0];
     let mut words = [0u32; LANES];
     let mut l = 0;
     while l < LANES {
@@ -160,6 +162,7 @@ fn lanes_two(
     requires { ⌜ PinsReady (now lanes) (now starts) 2 sources bits ⌝ }
     ensures { λ r. ⌜ EachLane r (keptWord (now (lanes .entry)) (now (starts .entry)) 2 sources bits table flip) ⌝ }
 {
+    let bits = [bits[0], bits[1], 0, 0];
     let mut words = [0u32; LANES];
     let mut l = 0;
     while l < LANES {
@@ -182,6 +185,7 @@ fn lanes_three(
     requires { ⌜ PinsReady (now lanes) (now starts) 3 sources bits ⌝ }
     ensures { λ r. ⌜ EachLane r (keptWord (now (lanes .entry)) (now (starts .entry)) 3 sources bits table flip) ⌝ }
 {
+    let bits = [bits[0], bits[1], bits[2], 0];
     let mut words = [0u32; LANES];
     let mut l = 0;
     while l < LANES {
@@ -204,6 +208,8 @@ fn lanes_four(
     requires { ⌜ PinsReady (now lanes) (now starts) 4 sources bits ⌝ }
     ensures { λ r. ⌜ EachLane r (keptWord (now (lanes .entry)) (now (starts .entry)) 4 sources bits table flip) ⌝ }
 {
+    // four plain reads would be made one wide read; the last bit is below 16 as it is
+    let bits = [bits[0], bits[1], bits[2], bits[3] % 16];
     let mut words = [0u32; LANES];
     let mut l = 0;
     while l < LANES {

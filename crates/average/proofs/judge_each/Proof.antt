@@ -4,10 +4,11 @@ use mathlib.Core.Path.{_≡_, refl, sym, ap}
 use native.Mathlib.Omega.{arith}
 use borrow.Author.Needs.{needs}
 use borrow.Author.Tests.{le-leb, lt-leb}
-use lib.ListN.{length}
+use lib.ListN.{length, getD}
 use Rattle.refusal.specs.declared.Judgement.the-variants.{Fine}
 use Rattle.refusal.specs.Judgement.{refuseUnless, lowest}
 use Rattle.refusal.proofs.Laws.{lowest-more, lowest-answer}
+use Rattle.area.specs.Layout.{largestWeight}
 use Rattle.calls.specs.Judgements.{weightJudgement}
 use Rattle.average.proofs.judge_each.Statement.{statement}
 use Rattle.average.proofs.judge_each.Tie as tie
@@ -34,7 +35,8 @@ returns : tie.Need-returns Inv-loop μ-loop
 returns c =
     let l = c .before .before .before .loop in
     let ws = c .before .before .before .before .args .weights .now in
-    lowest-answer (weightJudgement ws) (length ws) (l .q) 12 (l .q) (omega arith) (l .inv .1) (ap (λ b. refuseUnless b 12 (l .q)) (lt-leb _ _ (c .if1 .taken)))
+    lowest-answer (weightJudgement ws) (length ws) (l .q) 12 (l .q) (omega arith) (l .inv .1)
+    (ap (λ b. refuseUnless b 12 (l .q)) (lt-leb (getD ws (l .q) 0) largestWeight (omega (arith, c .if1 .taken))))
 
 add-q : tie.Need-add-q Inv-loop μ-loop
 add-q c = search needs
@@ -45,8 +47,11 @@ loop-less c = search needs
 loop-again : tie.Need-loop-again Inv-loop μ-loop
 loop-again c =
     let l = c .before .before .before .loop in
-    let ws = c .before .before .before .before .args .weights .now in
-    (omega arith, lowest-more (weightJudgement ws) (l .q) (l .inv .1) (ap (λ b. refuseUnless b 12 (l .q)) (le-leb _ _ (c .if1 .left))))
+    let ws = c .before .before .before .before .args .weights .now in (
+      omega arith,
+      lowest-more (weightJudgement ws) (l .q) (l .inv .1)
+          (ap (λ b. refuseUnless b 12 (l .q)) (le-leb (getD ws (l .q) 0) largestWeight (omega (arith, c .if1 .left)))),
+    )
 
 returns-2 : tie.Need-returns-2 Inv-loop μ-loop
 returns-2 c =

@@ -7,7 +7,6 @@ use native.Mathlib.Nat.{one-mul, mod-eq-of-lt}
 use native.Mathlib.Omega.{arith}
 use borrow.Author.Needs.{needs}
 use borrow.Author.Tests.{eq-eqb, ne-eqb}
-use lib.Dec.{eqb}
 use lib.ListN.{length}
 use lib.Pow.{pow-mono}
 use Rattle.lists.specs.Lists.{allZero}
@@ -35,8 +34,8 @@ module _ (n : ℕ) (weights : List ℕ) where
   unfolding weightsJudgement
   right-length v e each = rw (eq-eqb (length weights) (2 ^ n) e, each)
 
-  none-heavy : (v : Judgement) (none : Bool) → length weights ≡ 2 ^ n → v ≡ lowest (weightJudgement weights) (length weights) → v ≡ Fine → allZero weights ≡ none
-      → refuseUnless (not none) 12 0 ≡ weightsJudgement n weights
+  none-heavy : (v : Judgement) (none : Bool) → length weights ≡ 2 ^ n → v ≡ lowest (weightJudgement weights) (length weights) → v ≡ Fine
+      → allZero weights ≡ none → refuseUnless (not none) 12 0 ≡ weightsJudgement n weights
   none-heavy v none e each fine zero = sym (right-length v e each ∙ rw (fine, zero))
 
 shl-if1 : tie.Need-shl-if1

@@ -1,7 +1,7 @@
 -- `average::work_block` meets its contract: after so many gates the lanes have the words of the inputs and of the live ones among them. Assumes nothing.
 use Prim.Native.Nat.{ℕ, _+_, _-_, _≤_, _<_}
 use mathlib.Core.Logic.{⊎-elim}
-use mathlib.Core.Path.{_≡_, sym, ap, _∙_}
+use mathlib.Core.Path.{_≡_, ap}
 use native.Mathlib.Omega.{arith}
 use borrow.Author.Needs.{needs}
 use lib.ListN.{length, getD}
@@ -63,11 +63,11 @@ work-row-requires : tie.Need-work-row-requires Inv-loop μ-loop
 work-row-requires c κs =
     let t = c .before .before .before in
     let l = t .before .loop in
-    let live : 0 < getD (s t .args .readers .now) (inputs (s t .args .area .now) + l .gate) 0 = rw (place t) at (c .before .if1 .taken) in (
+    let read = rw (place t) at (c .before .if1 .taken) in (
       (s t .pre .0, inside t),
       (
         block-sure _ _ (s t .pre .0) (s t .pre .1 .0) _ _ _ (l .inv .2),
-        (block-readable _ _ (s t .pre .0) (s t .pre .1 .0) _ _ _ (inside t) (l .inv .2) live, l .inv .1),
+        (block-readable _ _ (s t .pre .0) (s t .pre .1 .0) _ _ _ (inside t) (l .inv .2) (omega arith), l .inv .1),
       ),
     )
 
@@ -82,14 +82,14 @@ loop-again c =
     let t = c .before .before in
     let l = t .before .loop in
     ⊎-elim
-    (λ w. (
+    (λ w.
+    let read = rw (place t) at (w .0 .taken) in (
       omega arith,
       rw (w .3) (w .2 .ensures .1),
-      rw (w .3)
-          (block-live _ _ (s t .pre .0) (s t .pre .1 .0) _ _ _ (inside t) (l .inv .2) (rw (place t) at (w .0 .taken)) _ (w .2 .ensures .0)),
+      rw (w .3) (block-live _ _ (s t .pre .0) (s t .pre .1 .0) _ _ _ (inside t) (l .inv .2) (omega arith) _ (w .2 .ensures .0)),
     ))
     (λ w.
-    let dead = rw (place t) at (w .0 .left) in (
+    let read = rw (place t) at (w .0 .left) in (
       omega arith,
       rw (w .1) (l .inv .1),
       rw (w .1) (block-dead _ _ (s t .pre .0) (s t .pre .1 .0) _ _ _ (inside t) (l .inv .2) (omega arith)),

@@ -1,19 +1,37 @@
 -- `lanes::lanes_four` meets its contract: each turn fills in the word of one lane. Assumes nothing.
-use Prim.Native.Nat.{_-_}
-use mathlib.Core.Path.{refl}
+use Prim.Native.Nat.{ℕ, _-_, _%_}
+use mathlib.Core.Path.{_≡_, refl}
+use mathlib.Core.List.{List, [], _∷_}
 use native.Mathlib.Omega.{arith}
 use borrow.Author.Count.{below-none}
 use borrow.Author.Needs.{needs}
-use Rattle.lanes.specs.Lanes.{keptWord, laneCount}
+use lib.ListN.{getD}
+use Rattle.lanes.specs.Lanes.{laneCount, keptWord}
 use Rattle.lanes.proofs.Fill.{Filled, kept-failures, kept-turn}
 use Rattle.lanes.proofs.lanes_four.Statement.{statement}
 use Rattle.lanes.proofs.lanes_four.Tie as tie
 
+-- the bits as they are read
+abbrev taken : List ℕ → List ℕ
+taken bits = getD bits 0 0 ∷ getD bits 1 0 ∷ getD bits 2 0 ∷ getD bits 3 0 % 16 ∷ []
+
 abbrev Inv-loop : tie.InvT-loop
-Inv-loop lanes table flip sources bits starts words₀ l₀ words l = Filled laneCount (keptWord lanes starts 4 sources bits table flip) words l
+Inv-loop lanes table flip sources starts bits words₀ l₀ words l = Filled laneCount (keptWord lanes starts 4 sources bits table flip) words l
 
 abbrev μ-loop : tie.MeasureT-loop
-μ-loop lanes table flip sources bits starts words₀ l₀ words l = laneCount - l
+μ-loop lanes table flip sources starts bits words₀ l₀ words l = laneCount - l
+
+array-read-t14 : tie.Need-array-read-t14 Inv-loop μ-loop
+array-read-t14 c = search needs
+
+array-read-t17 : tie.Need-array-read-t17 Inv-loop μ-loop
+array-read-t17 c = search needs
+
+array-read-t20 : tie.Need-array-read-t20 Inv-loop μ-loop
+array-read-t20 c = search needs
+
+array-read-t23 : tie.Need-array-read-t23 Inv-loop μ-loop
+array-read-t23 c = search needs
 
 loop-holds : tie.Need-loop-holds Inv-loop μ-loop
 loop-holds c = (omega arith, refl, below-none _)
@@ -33,8 +51,8 @@ word-four-requires c κs =
     let l = c .before .before .before .loop .l in
     let less = c .before .before .loop-test .taken in
     let read = c .before .kept-words in (
-      (s .pre .1 .fits l less, s .pre .0),
-      kept-failures (s .args .lanes .now) (s .args .starts .now) 4 (s .args .sources) (s .args .bits) (read .result) l less (read .ensures) (s .pre .1),
+      (omega (arith, s .pre .1 .fits l less), s .pre .0),
+      kept-failures (s .args .lanes .now) (s .args .starts .now) 4 (s .args .sources) (s .args .t5) (read .result) l less (read .ensures) (s .pre .1),
     )
 
 mul-words : tie.Need-mul-words Inv-loop μ-loop
@@ -51,14 +69,18 @@ loop-less c = search needs
 
 loop-again : tie.Need-loop-again Inv-loop μ-loop
 loop-again c =
-    let a = c .before .before .before .before .before .args in
+    let s = c .before .before .before .before .before in
+    let a = s .args in
     let l = c .before .before .before .before .loop in
     let read = c .before .before .kept-words in
-    kept-turn (a .lanes .now) (a .starts .now) 4 (a .sources) (a .bits) (read .result) (l .l) (omega arith) (read .ensures)
+    kept-turn (a .lanes .now) (a .starts .now) 4 (a .sources) (taken (a .t5)) (read .result) (l .l) (omega arith) (read .ensures)
     (a .table) (a .flip) (l .words) (c .word-four .result) (l .inv) (c .word-four .ensures)
 
 returns : tie.Need-returns Inv-loop μ-loop
-returns c = λ m less. c .before .loop .inv .2 m (omega arith)
+returns c = λ m less.
+    let s = c .before .before in
+    let last : getD (s .args .t5) 3 0 % 16 ≡ getD (s .args .t5) 3 0 = omega (arith, s .pre .1 .fits 0 (omega arith)) in
+    rw last at (c .before .loop .inv .2 m (omega arith))
 
 pub lanes-four-spec : {M : Type 1} → statement M
 lanes-four-spec =
@@ -66,6 +88,10 @@ lanes-four-spec =
     (tie.spec
     Inv-loop
     μ-loop
+    array-read-t14
+    array-read-t17
+    array-read-t20
+    array-read-t23
     loop-holds
     kept-words-requires
     mul-word-four

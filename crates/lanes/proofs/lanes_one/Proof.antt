@@ -4,16 +4,19 @@ use mathlib.Core.Path.{refl}
 use native.Mathlib.Omega.{arith}
 use borrow.Author.Count.{below-none}
 use borrow.Author.Needs.{needs}
-use Rattle.lanes.specs.Lanes.{keptWord, laneCount}
+use Rattle.lanes.specs.Lanes.{laneCount, keptWord}
 use Rattle.lanes.proofs.Fill.{Filled, kept-failures, kept-turn}
 use Rattle.lanes.proofs.lanes_one.Statement.{statement}
 use Rattle.lanes.proofs.lanes_one.Tie as tie
 
 abbrev Inv-loop : tie.InvT-loop
-Inv-loop lanes table flip sources bits starts words₀ l₀ words l = Filled laneCount (keptWord lanes starts 1 sources bits table flip) words l
+Inv-loop lanes table flip sources starts bits words₀ l₀ words l = Filled laneCount (keptWord lanes starts 1 sources bits table flip) words l
 
 abbrev μ-loop : tie.MeasureT-loop
-μ-loop lanes table flip sources bits starts words₀ l₀ words l = laneCount - l
+μ-loop lanes table flip sources starts bits words₀ l₀ words l = laneCount - l
+
+array-read-t14 : tie.Need-array-read-t14 Inv-loop μ-loop
+array-read-t14 c = search needs
 
 loop-holds : tie.Need-loop-holds Inv-loop μ-loop
 loop-holds c = (omega arith, refl, below-none _)
@@ -34,7 +37,7 @@ word-one-requires c κs =
     let less = c .before .before .loop-test .taken in
     let read = c .before .kept-words in (
       (s .pre .1 .fits l less, s .pre .0),
-      kept-failures (s .args .lanes .now) (s .args .starts .now) 1 (s .args .sources) (s .args .bits) (read .result) l less (read .ensures) (s .pre .1),
+      kept-failures (s .args .lanes .now) (s .args .starts .now) 1 (s .args .sources) (s .args .t5) (read .result) l less (read .ensures) (s .pre .1),
     )
 
 mul-words : tie.Need-mul-words Inv-loop μ-loop
@@ -54,7 +57,7 @@ loop-again c =
     let a = c .before .before .before .before .before .args in
     let l = c .before .before .before .before .loop in
     let read = c .before .before .kept-words in
-    kept-turn (a .lanes .now) (a .starts .now) 1 (a .sources) (a .bits) (read .result) (l .l) (omega arith) (read .ensures)
+    kept-turn (a .lanes .now) (a .starts .now) 1 (a .sources) (a .t5) (read .result) (l .l) (omega arith) (read .ensures)
     (a .table) (a .flip) (l .words) (c .word-one .result) (l .inv) (c .word-one .ensures)
 
 returns : tie.Need-returns Inv-loop μ-loop
@@ -66,6 +69,7 @@ lanes-one-spec =
     (tie.spec
     Inv-loop
     μ-loop
+    array-read-t14
     loop-holds
     kept-words-requires
     mul-word-one
