@@ -1,6 +1,6 @@
 -- The book of document 01, "The list and the book": what is current and exact after a list of calls. It is fed the area's length and the calls' arguments,
 -- and neither a word of the area nor an answer.
-use Prim.Native.Nat.{ℕ}
+use Prim.Native.Nat.{ℕ, suc}
 use mathlib.Core.List.{List}
 use lib.ListN.{length, set}
 use Rattle.refusal.specs.declared.Judgement.{Judgement}

@@ -16,7 +16,8 @@ array-share-prefix-weights : tie.Need-array-share-prefix-weights
 array-share-prefix-weights c = search needs
 
 slice-aggregate-average : tie.Need-slice-aggregate-average
-slice-aggregate-average c = sym (length-take-le _ _ (omega (arith, c .before .before .before .equal-weights .ensures, c .before .before .pattern-count .ensures)))
+slice-aggregate-average c =
+    sym (length-take-le _ _ (omega (arith, c .before .before .before .equal-weights .ensures, c .before .before .pattern-count .ensures)))
 
 average-requires : tie.Need-average-requires
 average-requires c κs = search needs
@@ -26,6 +27,9 @@ enum-known-units c = search needs
 
 slice-aggregate-print-word : tie.Need-slice-aggregate-print-word
 slice-aggregate-print-word c = search needs
+
+cast-print-word : tie.Need-cast-print-word
+cast-print-word c = search needs
 
 print-word-requires : tie.Need-print-word-requires
 print-word-requires c κs = search needs
@@ -62,6 +66,7 @@ print-average-spec =
     average-requires
     enum-known-units
     slice-aggregate-print-word
+    cast-print-word
     print-word-requires
     end-line-requires
     enum-known-number
