@@ -118,52 +118,84 @@ pub record Opening : Type 0 where
 abbrev pub openings : List Opening
 openings =
     record {
-      image = printedImage; judged = Fine; live = 3;
-      reliabilities = 805_306_368 ∷ 805_306_368 ∷ 805_306_368 ∷ 268_435_456 ∷ []; average = 671_088_640;
+      image = printedImage;
+      judged = Fine;
+      live = 3;
+      reliabilities = 805_306_368 ∷ 805_306_368 ∷ 805_306_368 ∷ 268_435_456 ∷ [];
+      average = 671_088_640;
       failures = 536_870_912 ∷ 536_870_912 ∷ 268_435_456 ∷ [];
-      exact = 3 ∷ 3 ∷ 3 ∷ 1 ∷ []; parts = 4;
+      exact = 3 ∷ 3 ∷ 3 ∷ 1 ∷ [];
+      parts = 4;
     }
     ∷ record {
-      image = twoAndsImage; judged = Fine; live = 2;
-      reliabilities = replicate 8 969_051_997; average = 969_051_997;
+      image = twoAndsImage;
+      judged = Fine;
+      live = 2;
+      reliabilities = replicate 8 969_051_997;
+      average = 969_051_997;
       failures = 53_687_091 ∷ 53_687_091 ∷ [];
-      exact = replicate 8 4_686_047_914_827_681_907_366_887_202_708_521; parts = 2 ^ 112;
+      exact = replicate 8 4_686_047_914_827_681_907_366_887_202_708_521;
+      parts = 2 ^ 112;
     }
     ∷ record {
-      image = andInverterImage; judged = Fine; live = 2;
-      reliabilities = replicate 4 971_736_351; average = 971_736_351;
+      image = andInverterImage;
+      judged = Fine;
+      live = 2;
+      reliabilities = replicate 4 971_736_351;
+      average = 971_736_351;
       failures = 53_687_091 ∷ 102_005_473 ∷ [];
-      exact = replicate 4 2_349_514_328_487_009_488_939_682_662_145_065; parts = 2 ^ 111;
+      exact = replicate 4 2_349_514_328_487_009_488_939_682_662_145_065;
+      parts = 2 ^ 111;
     }
     ∷ record {
-      image = sureBuffersImage; judged = Fine; live = 2;
-      reliabilities = replicate 2 1_073_741_824; average = 1_073_741_824;
+      image = sureBuffersImage;
+      judged = Fine;
+      live = 2;
+      reliabilities = replicate 2 1_073_741_824;
+      average = 1_073_741_824;
       failures = 1_073_741_824 ∷ 0 ∷ [];
-      exact = replicate 2 1; parts = 1;
+      exact = replicate 2 1;
+      parts = 1;
     }
     ∷ record {
-      image = noGatesImage; judged = Fine; live = 0;
-      reliabilities = replicate 2 1_073_741_824; average = 1_073_741_824;
+      image = noGatesImage;
+      judged = Fine;
+      live = 0;
+      reliabilities = replicate 2 1_073_741_824;
+      average = 1_073_741_824;
       failures = [];
-      exact = replicate 2 1; parts = 1;
+      exact = replicate 2 1;
+      parts = 1;
     }
     ∷ record {
-      image = gateTwiceImage; judged = Refused 9 0; live = 2;
-      reliabilities = []; average = 0;
+      image = gateTwiceImage;
+      judged = Refused 9 0;
+      live = 2;
+      reliabilities = [];
+      average = 0;
       failures = [];
-      exact = []; parts = 1;
+      exact = [];
+      parts = 1;
     }
     ∷ record {
-      image = inputTwiceImage; judged = Fine; live = 1;
-      reliabilities = replicate 2 1_073_741_824; average = 1_073_741_824;
+      image = inputTwiceImage;
+      judged = Fine;
+      live = 1;
+      reliabilities = replicate 2 1_073_741_824;
+      average = 1_073_741_824;
       failures = 0 ∷ [];
-      exact = replicate 2 1; parts = 1;
+      exact = replicate 2 1;
+      parts = 1;
     }
     ∷ record {
-      image = deadReaderImage; judged = Fine; live = 2;
-      reliabilities = replicate 2 536_870_912; average = 536_870_912;
+      image = deadReaderImage;
+      judged = Fine;
+      live = 2;
+      reliabilities = replicate 2 536_870_912;
+      average = 536_870_912;
       failures = 536_870_912 ∷ 536_870_912 ∷ 536_870_912 ∷ [];
-      exact = replicate 2 1; parts = 2;
+      exact = replicate 2 1;
+      parts = 2;
     }
     ∷ []
 

@@ -38,18 +38,16 @@ divided l v h = ap (λ (z : ℕ). 2 ^ z) (back l v h) ∙ pow-add 2 (l - v) v
 -- its digits are few, and its denominator divides that of the smallest value
 pub fits-says : (f : Format) (s : Bool) (m : ℕ) (e : ℤ) → T (fits f (fin s m e)) → (m < 2 ^ prec f) × (down e ≤ 2 ^ low f)
 unfolding fits
-fits-says f s zero e t =
-    (
-      pow-pos (prec f),
-      le-trans (le-trans (le-of-eq (sym (one-mul (down e)))) (mul-le-mul-right (down e) (up-pos e)))
-          (le-trans (le-of-eq (eqb→eq (up e * down e) 1 t)) (pow-pos (low f))),
-    )
+fits-says f s zero e t = (
+  pow-pos (prec f),
+  le-trans (le-trans (le-of-eq (sym (one-mul (down e)))) (mul-le-mul-right (down e) (up-pos e)))
+      (le-trans (le-of-eq (eqb→eq (up e * down e) 1 t)) (pow-pos (low f))),
+)
 fits-says f s (suc m) e t =
     let a = eqb (suc m % 2) 1 in
     let b = ltb (suc m) (2 ^ prec f) in
     let c = leb (down e) (2 ^ low f) in
-    let d = ltb (suc m * up e) (2 ^ suc (emax f) * down e) in
-    (
+    let d = ltb (suc m * up e) (2 ^ suc (emax f) * down e) in (
       ltb→lt (suc m) (2 ^ prec f) (and-r a b (and-l (a && b) c (and-l (a && b && c) d t))),
       leb→le (down e) (2 ^ low f) (and-r (a && b) c (and-l (a && b && c) d t)),
     )

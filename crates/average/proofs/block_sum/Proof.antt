@@ -46,18 +46,6 @@ loop-holds c =
     let none : s .args .first + 0 ≡ s .args .first = omega arith in
     (omega arith, omega (arith, ap (weightedTo (s .args .area .now) (s .args .weights .now)) none))
 
-add-if1 : tie.Need-add-if1 Inv-loop μ-loop
-add-if1 c = search needs
-
-add-sum : tie.Need-add-sum Inv-loop μ-loop
-add-sum c = search needs
-
-mul-sum : tie.Need-mul-sum Inv-loop μ-loop
-mul-sum c = search needs
-
-shared-slice-read-sum : tie.Need-shared-slice-read-sum Inv-loop μ-loop
-shared-slice-read-sum c = search needs
-
 cast-sum : tie.Need-cast-sum Inv-loop μ-loop
 cast-sum c =
     let s = c .before .before .before .before .before .before in
@@ -86,12 +74,6 @@ add-sum-2 c =
     let s = c .before .before .before .before .before .before .before in
     let l = c .before .before .before .before .loop in
     omega (arith, more c, weighted-limit (s .args .area .now) (s .args .weights .now) (s .pre .0) (s .pre .1 .0) (s .args .first + (l .l + 1)))
-
-add-l : tie.Need-add-l Inv-loop μ-loop
-add-l c = search needs
-
-loop-less : tie.Need-loop-less Inv-loop μ-loop
-loop-less c = search needs
 
 loop-again : tie.Need-loop-again Inv-loop μ-loop
 loop-again c =
@@ -122,15 +104,15 @@ block-sum-spec =
     Inv-loop
     μ-loop
     loop-holds
-    add-if1
-    add-sum
-    mul-sum
-    shared-slice-read-sum
+    (λ c. search needs)
+    (λ c. search needs)
+    (λ c. search needs)
+    (λ c. search needs)
     cast-sum
     lane-reliability-requires
     mul-sum-2
     add-sum-2
-    add-l
-    loop-less
+    (λ c. search needs)
+    (λ c. search needs)
     loop-again
     returns)

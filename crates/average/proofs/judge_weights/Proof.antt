@@ -38,9 +38,6 @@ module _ (n : ℕ) (weights : List ℕ) where
       → allZero weights ≡ none → refuseUnless (not none) 12 0 ≡ weightsJudgement n weights
   none-heavy v none e each fine zero = sym (right-length v e each ∙ rw (fine, zero))
 
-shl-if1 : tie.Need-shl-if1
-shl-if1 c = search needs
-
 returns : tie.Need-returns
 returns c =
     let s = c .before .before in
@@ -53,20 +50,11 @@ right c = c .if1 .left ∙ shifted (c .before .before .args .inputs) (c .before 
 judge-each-requires : tie.Need-judge-each-requires
 judge-each-requires c κs = omega (arith, right c, pow-mono {i = c .before .before .args .inputs} {j = mostInputs} (c .before .before .pre))
 
-enum-told : tie.Need-enum-told
-enum-told c = search needs
-
-all-zero-requires : tie.Need-all-zero-requires
-all-zero-requires c κs = search needs
-
 returns-2 : tie.Need-returns-2
 returns-2 c =
     let each = c .before .before .before .before in
     none-heavy _ _ _ true (right (each .before)) (each .judge-each .ensures) (c .before .before .enum-told .given .1)
     (sym (c .before .all-zero .ensures) ∙ c .if2 .taken)
-
-enum-known-number : tie.Need-enum-known-number
-enum-known-number c = search needs
 
 returns-3 : tie.Need-returns-3
 returns-3 c =
@@ -83,12 +71,12 @@ pub judge-weights-spec : {M : Type 1} → statement M
 judge-weights-spec =
     tie.close
     (tie.spec
-    shl-if1
+    (λ c. search needs)
     returns
     judge-each-requires
-    enum-told
-    all-zero-requires
+    (λ c. search needs)
+    (λ c κs. search needs)
     returns-2
-    enum-known-number
+    (λ c. search needs)
     returns-3
     returns-4)

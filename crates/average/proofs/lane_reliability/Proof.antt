@@ -24,15 +24,6 @@ Inv-loop lanes area lane start count reliability₀ k₀ reliability k =
 abbrev μ-loop : tie.MeasureT-loop
 μ-loop lanes area lane start count reliability₀ k₀ reliability k = count - k
 
-gates-requires : tie.Need-gates-requires Inv-loop μ-loop
-gates-requires c κs = search needs
-
-outputs-index-requires : tie.Need-outputs-index-requires Inv-loop μ-loop
-outputs-index-requires c κs = search needs
-
-outputs-requires : tie.Need-outputs-requires Inv-loop μ-loop
-outputs-requires c κs = search needs
-
 loop-holds : tie.Need-loop-holds Inv-loop μ-loop
 loop-holds c = (omega arith, omega arith, refl)
 
@@ -64,9 +55,6 @@ mul-index c = omega (arith, first c, used c, s c .pre .0 .0 .gates-fit, s c .pre
 
 shared-slice-read-index : tie.Need-shared-slice-read-index Inv-loop μ-loop
 shared-slice-read-index c = omega (arith, first (c .before), used (c .before), s (c .before) .pre .0 .0 .long)
-
-index-requires : tie.Need-index-requires Inv-loop μ-loop
-index-requires c κs = search needs
 
 -- the source that it reads, and that source's failure in the lane
 module _ (c : tie.After-index Inv-loop μ-loop) where
@@ -103,12 +91,6 @@ cast-output-step c = omega (arith, fits (c .before))
 output-step-requires : tie.Need-output-step-requires Inv-loop μ-loop
 output-step-requires c κs = (c .before .before .before .before .loop .inv .1, fits (c .before))
 
-add-k : tie.Need-add-k Inv-loop μ-loop
-add-k c = search needs
-
-loop-less : tie.Need-loop-less Inv-loop μ-loop
-loop-less c = search needs
-
 loop-again : tie.Need-loop-again Inv-loop μ-loop
 loop-again c =
     let at = c .before .before in
@@ -136,21 +118,21 @@ lane-reliability-spec =
     (tie.spec
     Inv-loop
     μ-loop
-    gates-requires
-    outputs-index-requires
-    outputs-requires
+    (λ c κs. search needs)
+    (λ c κs. search needs)
+    (λ c κs. search needs)
     loop-holds
     add-index
     mul-index
     shared-slice-read-index
-    index-requires
+    (λ c κs. search needs)
     mul-word
     add-word
     mul-word-2
     element-copy-out-word
     cast-output-step
     output-step-requires
-    add-k
-    loop-less
+    (λ c. search needs)
+    (λ c. search needs)
     loop-again
     returns)

@@ -19,12 +19,6 @@ abbrev μ-loop : tie.MeasureT-loop
 loop-holds : tie.Need-loop-holds Inv-loop μ-loop
 loop-holds c = (omega arith, refl, omega arith)
 
-mul-total : tie.Need-mul-total Inv-loop μ-loop
-mul-total c = search needs
-
-shared-slice-read-total : tie.Need-shared-slice-read-total Inv-loop μ-loop
-shared-slice-read-total c = search needs
-
 cast-total : tie.Need-cast-total Inv-loop μ-loop
 cast-total c = omega (arith, c .shared-slice-known .given (c .before .before .loop .q))
 
@@ -32,12 +26,6 @@ add-total : tie.Need-add-total Inv-loop μ-loop
 add-total c =
     let l = c .before .before .loop in
     omega (arith, c .shared-slice-known .given (l .q))
-
-add-q : tie.Need-add-q Inv-loop μ-loop
-add-q c = search needs
-
-loop-less : tie.Need-loop-less Inv-loop μ-loop
-loop-less c = search needs
 
 loop-again : tie.Need-loop-again Inv-loop μ-loop
 loop-again c =
@@ -59,11 +47,11 @@ total-weight-spec =
     Inv-loop
     μ-loop
     loop-holds
-    mul-total
-    shared-slice-read-total
+    (λ c. search needs)
+    (λ c. search needs)
     cast-total
     add-total
-    add-q
-    loop-less
+    (λ c. search needs)
+    (λ c. search needs)
     loop-again
     returns)

@@ -16,21 +16,6 @@ few s = few-weights (s .args .area .now) (s .args .weights .now) (s .pre .0) (s 
 block-end-requires : tie.Need-block-end-requires
 block-end-requires c κs = (omega (arith, c .before .before .pre .1 .1 .1 .0), few (c .before .before))
 
-mul-all-zero : tie.Need-mul-all-zero
-mul-all-zero c = search needs
-
-sub-all-zero : tie.Need-sub-all-zero
-sub-all-zero c = search needs
-
-part-all-zero-start : tie.Need-part-all-zero-start
-part-all-zero-start c = search needs
-
-part-all-zero-end : tie.Need-part-all-zero-end
-part-all-zero-end c = search needs
-
-all-zero-requires : tie.Need-all-zero-requires
-all-zero-requires c κs = search needs
-
 returns : tie.Need-returns
 returns c =
     let s = c .before .before .before .before .before .before in
@@ -59,11 +44,11 @@ weighted-block-spec =
     tie.close
     (tie.spec
     block-end-requires
-    mul-all-zero
-    sub-all-zero
-    part-all-zero-start
-    part-all-zero-end
-    all-zero-requires
+    (λ c. search needs)
+    (λ c. search needs)
+    (λ c. search needs)
+    (λ c. search needs)
+    (λ c κs. search needs)
     returns
     work-block-requires
     block-sum-requires

@@ -19,9 +19,6 @@ Inv-loop area weights readers lanes₀ sum₀ first₀ lanes sum first =
 abbrev μ-loop : tie.MeasureT-loop
 μ-loop area weights readers lanes₀ sum₀ first₀ lanes sum first = length weights - first
 
-count-readers-requires : tie.Need-count-readers-requires Inv-loop μ-loop
-count-readers-requires c κs = search needs
-
 loop-holds : tie.Need-loop-holds Inv-loop μ-loop
 unfolding weightedTo
 loop-holds c = (omega arith, length-replicate {A = ℕ} laneWords 0, refl)
@@ -69,7 +66,7 @@ weighted-sum-spec =
     (tie.spec
     Inv-loop
     μ-loop
-    count-readers-requires
+    (λ c κs. search needs)
     loop-holds
     weighted-block-requires
     add-sum

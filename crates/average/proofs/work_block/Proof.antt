@@ -18,12 +18,6 @@ Inv-loop lanes₀ area readers first n count gate₀ lanes gate = (gate ≤ coun
 abbrev μ-loop : tie.MeasureT-loop
 μ-loop lanes₀ area readers first n count gate₀ lanes gate = count - gate
 
-inputs-requires : tie.Need-inputs-requires Inv-loop μ-loop
-inputs-requires c κs = search needs
-
-gates-requires : tie.Need-gates-requires Inv-loop μ-loop
-gates-requires c κs = search needs
-
 input-lanes-requires : tie.Need-input-lanes-requires Inv-loop μ-loop
 input-lanes-requires c κs =
     let s = c .before .before .before .before in
@@ -71,12 +65,6 @@ work-row-requires c κs =
       ),
     )
 
-add-gate : tie.Need-add-gate Inv-loop μ-loop
-add-gate c = search needs
-
-loop-less : tie.Need-loop-less Inv-loop μ-loop
-loop-less c = search needs
-
 loop-again : tie.Need-loop-again Inv-loop μ-loop
 loop-again c =
     let t = c .before .before in
@@ -109,15 +97,15 @@ work-block-spec =
     (tie.spec
     Inv-loop
     μ-loop
-    inputs-requires
-    gates-requires
+    (λ c κs. search needs)
+    (λ c κs. search needs)
     input-lanes-requires
     loop-holds
     add-if1
     mul-if1
     element-copy-out-if1
     work-row-requires
-    add-gate
-    loop-less
+    (λ c. search needs)
+    (λ c. search needs)
     loop-again
     returns)

@@ -23,25 +23,10 @@ kept s area i e l = ap length e ∙ copied-length (s .args .words .now) (s .args
 loop-holds : tie.Need-loop-holds Inv-loop μ-loop
 loop-holds c = (omega arith, refl)
 
-mul-area : tie.Need-mul-area Inv-loop μ-loop
-mul-area c = search needs
-
-shared-slice-read-area : tie.Need-shared-slice-read-area Inv-loop μ-loop
-shared-slice-read-area c = search needs
-
-mul-area-2 : tie.Need-mul-area-2 Inv-loop μ-loop
-mul-area-2 c = search needs
-
 slice-write-area : tie.Need-slice-write-area Inv-loop μ-loop
 slice-write-area c =
     let s = c .before .before .before in
     omega (arith, kept s (c .before .before .loop .area) (c .before .before .loop .i) (c .before .before .loop .inv .1) (omega arith), s .pre)
-
-add-i : tie.Need-add-i Inv-loop μ-loop
-add-i c = search needs
-
-loop-less : tie.Need-loop-less Inv-loop μ-loop
-loop-less c = search needs
 
 loop-again : tie.Need-loop-again Inv-loop μ-loop
 loop-again c =
@@ -64,12 +49,12 @@ copy-words-spec =
     Inv-loop
     μ-loop
     loop-holds
-    mul-area
-    shared-slice-read-area
-    mul-area-2
+    (λ c. search needs)
+    (λ c. search needs)
+    (λ c. search needs)
     slice-write-area
-    add-i
-    loop-less
+    (λ c. search needs)
+    (λ c. search needs)
     loop-again
     same-length
     returns)

@@ -9,28 +9,19 @@ use borrow.Author.Needs.{needs}
 use Rattle.bench.proofs.judge_average.Statement.{statement}
 use Rattle.bench.proofs.judge_average.Tie as tie
 
-judge-requires : tie.Need-judge-requires
-judge-requires c κs = search needs
-
-enum-told : tie.Need-enum-told
-enum-told c = search needs
-
 inputs-requires : tie.Need-inputs-requires
-inputs-requires c κs = 
+inputs-requires c κs =
     let s = sound (c .before .before .before .before .before .args .area .now) (sym (c .before .before .judge .ensures) ∙ c .enum-told .given .1) in
     omega (arith, s .workable .net .long)
 
 judge-weights-requires : tie.Need-judge-weights-requires
-judge-weights-requires c κs = 
+judge-weights-requires c κs =
     let s = sound (c .before .before .before .before .before .before .args .area .now) (sym (c .before .before .before .judge .ensures) ∙ c .before .enum-told .given .1) in
     omega (arith, c .inputs .ensures, s .workable .net .inputs-fit)
 
-enum-known-number : tie.Need-enum-known-number
-enum-known-number c = search needs
-
 returns : tie.Need-returns
 unfolding argumentJudgement
-returns c = 
+returns c =
     let a = c .before .before .before .before .before .before .before .args in
     let s = sound (c .before .before .before .before .before .before .before .args .area .now) (sym (c .before .before .before .before .judge .ensures) ∙ c .before .before .enum-told .given .1) in
     c .judge-weights .ensures
@@ -38,7 +29,7 @@ returns c =
     ∙ sym (lent-sound (a .area .now) (take-average (a .weights .now)) s)
 
 returns-2 : tie.Need-returns-2
-returns-2 c = 
+returns-2 c =
     let a = c .before .before .before .before .before .before .args in
     sym (lent-stopped (a .area .now) (take-average (a .weights .now)) _ _ (sym (c .before .before .before .judge .ensures) ∙ c .before .number .given .1))
 
@@ -46,10 +37,10 @@ pub judge-average-spec : {M : Type 1} → statement M
 judge-average-spec =
     tie.close
     (tie.spec
-    judge-requires
-    enum-told
+    (λ c κs. search needs)
+    (λ c. search needs)
     inputs-requires
     judge-weights-requires
-    enum-known-number
+    (λ c. search needs)
     returns
     returns-2)

@@ -8,32 +8,20 @@ use borrow.Author.Needs.{needs}
 use Rattle.bench.proofs.judge_gate.Statement.{statement}
 use Rattle.bench.proofs.judge_gate.Tie as tie
 
-judge-requires : tie.Need-judge-requires
-judge-requires c κs = search needs
-
-enum-told : tie.Need-enum-told
-enum-told c = search needs
-
 gates-requires : tie.Need-gates-requires
-gates-requires c κs = 
+gates-requires c κs =
     let s = sound (c .before .before .before .before .args .area .now) (sym (c .before .before .judge .ensures) ∙ c .enum-told .given .1) in
     omega (arith, s .workable .net .long)
 
-judge-named-requires : tie.Need-judge-named-requires
-judge-named-requires c κs = search needs
-
-enum-known-number : tie.Need-enum-known-number
-enum-known-number c = search needs
-
 returns : tie.Need-returns
 unfolding argumentJudgement
-returns c = 
+returns c =
     let a = c .before .before .before .before .before .before .args in
     let s = sound (a .area .now) (sym (c .before .before .before .before .judge .ensures) ∙ c .before .before .enum-told .given .1) in
     c .judge-named .ensures ∙ ap (named (a .gate)) (c .before .gates .ensures) ∙ sym (lent-sound (a .area .now) (read-gate (a .gate)) s)
 
 returns-2 : tie.Need-returns-2
-returns-2 c = 
+returns-2 c =
     let a = c .before .before .before .before .before .args in
     sym (lent-stopped (a .area .now) (read-gate (a .gate)) _ _ (sym (c .before .before .before .judge .ensures) ∙ c .before .number .given .1))
 
@@ -41,10 +29,10 @@ pub judge-gate-spec : {M : Type 1} → statement M
 judge-gate-spec =
     tie.close
     (tie.spec
-    judge-requires
-    enum-told
+    (λ c κs. search needs)
+    (λ c. search needs)
     gates-requires
-    judge-named-requires
-    enum-known-number
+    (λ c κs. search needs)
+    (λ c. search needs)
     returns
     returns-2)

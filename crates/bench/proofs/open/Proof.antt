@@ -9,47 +9,27 @@ use borrow.Author.Needs.{needs}
 use Rattle.bench.proofs.open.Statement.{statement}
 use Rattle.bench.proofs.open.Tie as tie
 
-slice-aggregate-load : tie.Need-slice-aggregate-load
-slice-aggregate-load c = search needs
-
-load-requires : tie.Need-load-requires
-load-requires c κs = search needs
-
-enum-told : tie.Need-enum-told
-enum-told c = search needs
-
-slice-aggregate-open-loaded : tie.Need-slice-aggregate-open-loaded
-slice-aggregate-open-loaded c = search needs
-
 open-loaded-requires : tie.Need-open-loaded-requires
-open-loaded-requires c κs = 
+open-loaded-requires c κs =
     let bs = c .before .before .before .before .before .before .before .before .before .args .image .now in
     let accepted = sym (c .before .before .before .before .before .load .ensures .0) ∙ c .before .before .enum-told .given .1 in
-    let held : c .before .before .before .before .before .load .last .1 .0 ≡ imageWords bs ++ _ = c .before .before .before .before .before .load .ensures .1 accepted in
-    (
+    let held : c .before .before .before .before .before .load .last .1 .0 ≡ imageWords bs ++ _ = c .before .before .before .before .before .load .ensures .1 accepted in (
       rw held (loaded-sound bs _ accepted .workable .net),
       λ rest. rw (loaded-front bs _ _ held) (loaded-sound bs rest accepted .workable),
     )
 
-enum-known-number : tie.Need-enum-known-number
-enum-known-number c = search needs
-
-same-length : tie.Need-same-length
-same-length c = search needs
-
 returns : tie.Need-returns
-returns c = 
+returns c =
     let bs = c .before .before .before .before .before .before .before .before .before .before .before .before .args .image .now in
     let accepted = sym (c .before .before .before .before .before .before .before .before .load .ensures .0) ∙ c .before .before .before .before .before .enum-told .given .1 in
     let held : c .before .before .before .before .before .before .before .before .load .last .1 .0 ≡ imageWords bs ++ _ = c .before .before .before .before .before .before .before .before .load .ensures .1 accepted in
-    let j = open-judged bs _ _ held accepted (length (c .before .before .before .before .before .before .before .before .before .before .before .before .args .area .now)) in
-    (
+    let j = open-judged bs _ _ held accepted (length (c .before .before .before .before .before .before .before .before .before .before .before .before .args .area .now)) in (
       rw (j, open-live bs _ _ held) (c .before .before .open-loaded .ensures .0),
       rw (j, open-words bs _ _ held (c .before .before .before .before .before .before .before .before .before .before .before .before .args .area .now)) (c .before .before .open-loaded .ensures .1),
     )
 
 returns-2 : tie.Need-returns-2
-returns-2 c = 
+returns-2 c =
     let a = c .before .before .before .before .before .before .before .before .args in
     let e = open-refused (a .image .now) _ _ (length (a .area .now)) (sym (c .before .before .before .before .load .ensures .0) ∙ c .before .number .given .1) in
     (rw e refl, rw e refl)
@@ -58,12 +38,12 @@ pub open-spec : {M : Type 1} → statement M
 open-spec =
     tie.close
     (tie.spec
-    slice-aggregate-load
-    load-requires
-    enum-told
-    slice-aggregate-open-loaded
+    (λ c. search needs)
+    (λ c κs. search needs)
+    (λ c. search needs)
+    (λ c. search needs)
     open-loaded-requires
-    enum-known-number
-    same-length
+    (λ c. search needs)
+    (λ c. search needs)
     returns
     returns-2)

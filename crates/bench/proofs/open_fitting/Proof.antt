@@ -12,17 +12,8 @@ use borrow.Author.Needs.{needs}
 use Rattle.bench.proofs.open_fitting.Statement.{statement}
 use Rattle.bench.proofs.open_fitting.Tie as tie
 
-gates-requires : tie.Need-gates-requires
-gates-requires c κs = search needs
-
-outputs-requires : tie.Need-outputs-requires
-outputs-requires c κs = search needs
-
-needed-requires : tie.Need-needed-requires
-needed-requires c κs = search needs
-
 returns : tie.Need-returns
-returns c = 
+returns c =
     let a = c .before .before .before .before .before .before .args in
     let ws = a .words .now in
     let count : c .before .needed .result ≡ needed (gates ws) (outputs ws) = c .before .needed .ensures ∙ ap₂ needed (c .before .before .before .gates .ensures) (c .before .before .outputs .ensures) in
@@ -30,22 +21,16 @@ returns c =
     let e = short-room (gates ws) (outputs ws) (length (a .area .now)) short in
     (rw e refl, rw e refl)
 
-copy-words-requires : tie.Need-copy-words-requires
-copy-words-requires c κs = search needs
-
 work-all-requires : tie.Need-work-all-requires
-work-all-requires c κs = 
+work-all-requires c κs =
     let a = c .before .before .before .before .before .before .before .before .before .before .before .args in
     let ws = a .words .now in
     let count : c .before .before .before .before .before .before .needed .result ≡ needed (gates ws) (outputs ws) = c .before .before .before .before .before .before .needed .ensures ∙ ap₂ needed (c .before .before .before .before .before .before .before .before .gates .ensures) (c .before .before .before .before .before .before .before .outputs .ensures) in
     rw (c .before .before .before .copy-words .ensures, count) (c .before .before .before .before .before .before .before .before .before .before .before .pre .1 (drop (needed (gates ws) (outputs ws)) (a .area .now)))
 
-same-length : tie.Need-same-length
-same-length c = search needs
-
 returns-2 : tie.Need-returns-2
 unfolding loadedWords
-returns-2 c = 
+returns-2 c =
     let a = c .before .before .before .before .before .before .before .before .before .before .before .before .before .before .args in
     let ws = a .words .now in
     let count : c .before .before .before .before .before .before .before .before .before .needed .result ≡ needed (gates ws) (outputs ws) = c .before .before .before .before .before .before .before .before .before .needed .ensures ∙ ap₂ needed (c .before .before .before .before .before .before .before .before .before .before .before .gates .ensures) (c .before .before .before .before .before .before .before .before .before .before .outputs .ensures) in
@@ -58,11 +43,11 @@ pub open-fitting-spec : {M : Type 1} → statement M
 open-fitting-spec =
     tie.close
     (tie.spec
-    gates-requires
-    outputs-requires
-    needed-requires
+    (λ c κs. search needs)
+    (λ c κs. search needs)
+    (λ c κs. search needs)
     returns
-    copy-words-requires
+    (λ c κs. search needs)
     work-all-requires
-    same-length
+    (λ c. search needs)
     returns-2)

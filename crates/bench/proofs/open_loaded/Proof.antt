@@ -15,36 +15,9 @@ use borrow.Author.Needs.{needs}
 use Rattle.bench.proofs.open_loaded.Statement.{statement}
 use Rattle.bench.proofs.open_loaded.Tie as tie
 
-inputs-requires : tie.Need-inputs-requires
-inputs-requires c κs = search needs
-
-gates-requires : tie.Need-gates-requires
-gates-requires c κs = search needs
-
-count-readers-requires : tie.Need-count-readers-requires
-count-readers-requires c κs = search needs
-
-judge-shared-requires : tie.Need-judge-shared-requires
-judge-shared-requires c κs = search needs
-
-enum-told : tie.Need-enum-told
-enum-told c = search needs
-
-live-gates-requires : tie.Need-live-gates-requires
-live-gates-requires c κs = search needs
-
-open-fitting-requires : tie.Need-open-fitting-requires
-open-fitting-requires c κs = search needs
-
-enum-known-number : tie.Need-enum-known-number
-enum-known-number c = search needs
-
-same-length : tie.Need-same-length
-same-length c = search needs
-
 returns : tie.Need-returns
 unfolding loadedJudgement
-returns c = 
+returns c =
     let a = c .before .before .before .before .before .before .before .before .before .before .before .before .before .before .before .args in
     let ws = a .words .now in
     let xs = c .before .before .before .before .before .before .before .before .before .before .count-readers .result in
@@ -62,7 +35,7 @@ returns c =
 
 returns-2 : tie.Need-returns-2
 unfolding loadedJudgement
-returns-2 c = 
+returns-2 c =
     let a = c .before .before .before .before .before .before .before .before .before .before .args in
     let ws = a .words .now in
     let xs = c .before .before .before .before .before .count-readers .result in
@@ -78,14 +51,14 @@ pub open-loaded-spec : {M : Type 1} → statement M
 open-loaded-spec =
     tie.close
     (tie.spec
-    inputs-requires
-    gates-requires
-    count-readers-requires
-    judge-shared-requires
-    enum-told
-    live-gates-requires
-    open-fitting-requires
-    enum-known-number
-    same-length
+    (λ c κs. search needs)
+    (λ c κs. search needs)
+    (λ c κs. search needs)
+    (λ c κs. search needs)
+    (λ c. search needs)
+    (λ c κs. search needs)
+    (λ c κs. search needs)
+    (λ c. search needs)
+    (λ c. search needs)
     returns
     returns-2)

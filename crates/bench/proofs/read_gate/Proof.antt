@@ -8,26 +8,14 @@ use borrow.Author.Needs.{needs}
 use Rattle.bench.proofs.read_gate.Statement.{statement}
 use Rattle.bench.proofs.read_gate.Tie as tie
 
-judge-gate-requires : tie.Need-judge-gate-requires
-judge-gate-requires c κs = search needs
-
-enum-told : tie.Need-enum-told
-enum-told c = search needs
-
-index-requires : tie.Need-index-requires
-index-requires c κs = search needs
-
 figure-requires : tie.Need-figure-requires
-figure-requires c κs = 
+figure-requires c κs =
     let a = c .before .before .before .before .before .args in
     let p = lent-fine (a .area .now) (read-gate (a .gate)) (sym (c .before .before .before .judge-gate .ensures) ∙ c .before .enum-told .given .1) in
     omega (arith, c .index .ensures, p .0 .workable .net .long, gate-fine (inputs (a .area .now)) (gates (a .area .now)) (a .gate) (p .1))
 
-enum-known-number : tie.Need-enum-known-number
-enum-known-number c = search needs
-
 returns : tie.Need-returns
-returns c = 
+returns c =
     let a = c .before .before .before .before .before .before .args in
     let e = sym (c .before .before .before .before .judge-gate .ensures) ∙ c .before .before .enum-told .given .1 in
     let word : c .figure .result ≡ figure (a .area .now) (a .gate) = c .figure .ensures ∙ ap (figure (a .area .now)) (c .before .index .ensures) in
@@ -40,10 +28,10 @@ pub read-gate-spec : {M : Type 1} → statement M
 read-gate-spec =
     tie.close
     (tie.spec
-    judge-gate-requires
-    enum-told
-    index-requires
+    (λ c κs. search needs)
+    (λ c. search needs)
+    (λ c κs. search needs)
     figure-requires
-    enum-known-number
+    (λ c. search needs)
     returns
     returns-2)

@@ -8,31 +8,19 @@ use borrow.Author.Needs.{needs}
 use Rattle.bench.proofs.read_netlist.Statement.{statement}
 use Rattle.bench.proofs.read_netlist.Tie as tie
 
-judge-requires : tie.Need-judge-requires
-judge-requires c κs = search needs
-
-enum-told : tie.Need-enum-told
-enum-told c = search needs
-
 shared-slice-read-units : tie.Need-shared-slice-read-units
-shared-slice-read-units c = 
+shared-slice-read-units c =
     let s = sound (c .before .before .before .before .before .args .area .now) (sym (c .before .before .before .judge .ensures) ∙ c .before .enum-told .given .1) in
     omega (arith, s .workable .net .long)
 
 shared-slice-read-t8 : tie.Need-shared-slice-read-t8
-shared-slice-read-t8 c = 
+shared-slice-read-t8 c =
     let s = sound (c .before .before .before .before .before .before .args .area .now) (sym (c .before .before .before .before .judge .ensures) ∙ c .before .before .enum-told .given .1) in
     omega (arith, s .workable .net .long)
 
-units-as-f64-requires : tie.Need-units-as-f64-requires
-units-as-f64-requires c κs = search needs
-
-enum-known-number : tie.Need-enum-known-number
-enum-known-number c = search needs
-
 returns : tie.Need-returns
 unfolding argumentJudgement
-returns c = 
+returns c =
     let s = sound (c .before .before .before .before .before .before .before .args .area .now) (sym (c .before .before .before .before .before .judge .ensures) ∙ c .before .before .before .enum-told .given .1) in
     rw (lent-sound (c .before .before .before .before .before .before .before .args .area .now) read-netlist s) (c .units-as-f64 .result, refl, c .units-as-f64 .ensures)
 
@@ -43,11 +31,11 @@ pub read-netlist-spec : {M : Type 1} → statement M
 read-netlist-spec =
     tie.close
     (tie.spec
-    judge-requires
-    enum-told
+    (λ c κs. search needs)
+    (λ c. search needs)
     shared-slice-read-units
     shared-slice-read-t8
-    units-as-f64-requires
-    enum-known-number
+    (λ c κs. search needs)
+    (λ c. search needs)
     returns
     returns-2)

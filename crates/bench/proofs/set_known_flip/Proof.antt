@@ -13,31 +13,16 @@ use borrow.Author.Needs.{needs}
 use Rattle.bench.proofs.set_known_flip.Statement.{statement}
 use Rattle.bench.proofs.set_known_flip.Tie as tie
 
-read-units-requires : tie.Need-read-units-requires
-read-units-requires c κs = search needs
-
-enum-known-units : tie.Need-enum-known-units
-enum-known-units c = search needs
-
-index-requires : tie.Need-index-requires
-index-requires c κs = search needs
-
 set-units-requires : tie.Need-set-units-requires
-set-units-requires c κs = 
+set-units-requires c κs =
     let a = c .before .before .before .before .before .before .before .args in
     let u = units-accepted (a .kind) (a .field) (c .before .before .before .units .given .0 .0) (sym (c .before .before .before .before .before .read-units .ensures) ∙ c .before .before .before .units .given .1) in
     let p = lent-fine (a .area .now) (read-gate (a .gate)) (c .before .before .before .before .before .before .before .pre) in
     let below = gate-fine (inputs (a .area .now)) (gates (a .area .now)) (a .gate) (p .1) in
     (p .0 .workable, (omega (arith, c .index .ensures), rw (← u .1) (flip-units-at-most (a .kind) (a .field) (u .0))))
 
-enum-told : tie.Need-enum-told
-enum-told c = search needs
-
-same-length : tie.Need-same-length
-same-length c = search needs
-
 returns : tie.Need-returns
-returns c = 
+returns c =
     let a = c .before .before .before .before .before .before .before .before .before .before .args in
     let u = units-accepted (a .kind) (a .field) (c .before .before .before .before .before .before .units .given .0 .0) (sym (c .before .before .before .before .before .before .before .before .read-units .ensures) ∙ c .before .before .before .before .before .before .units .given .1) in
     let judged =
@@ -47,7 +32,7 @@ returns c =
     (rw (u .0) refl, rw judged (c .before .before .set-units .ensures ∙ ap₂ (setWords (a .area .now)) (c .before .before .before .index .ensures) (sym (u .1))))
 
 returns-2 : tie.Need-returns-2
-returns-2 c = 
+returns-2 c =
     let a = c .before .before .before .before .args in
     let u = units-refused (a .kind) (a .field) (sym (c .before .before .read-units .ensures) ∙ c .enum-told .given .1) in
     let judged =
@@ -60,11 +45,11 @@ pub set-known-flip-spec : {M : Type 1} → statement M
 set-known-flip-spec =
     tie.close
     (tie.spec
-    read-units-requires
-    enum-known-units
-    index-requires
+    (λ c κs. search needs)
+    (λ c. search needs)
+    (λ c κs. search needs)
     set-units-requires
-    enum-told
-    same-length
+    (λ c. search needs)
+    (λ c. search needs)
     returns
     returns-2)

@@ -9,37 +9,19 @@ use borrow.Author.Needs.{needs}
 use Rattle.bench.proofs.toggle_input.Statement.{statement}
 use Rattle.bench.proofs.toggle_input.Tie as tie
 
-judge-toggle-requires : tie.Need-judge-toggle-requires
-judge-toggle-requires c κs = search needs
-
-enum-told : tie.Need-enum-told
-enum-told c = search needs
-
-index-requires : tie.Need-index-requires
-index-requires c κs = search needs
-
 toggle-requires : tie.Need-toggle-requires
-toggle-requires c κs = 
+toggle-requires c κs =
     let a = c .before .before .before .before .before .before .before .args in
     let p = lent-fine (a .area .now) (toggle-input (a .input)) (sym (c .before .before .before .before .judge-toggle .ensures) ∙ c .before .before .enum-told .given .1) in
     (p .0 .workable, omega (arith, c .index .ensures, toggle-fine (inputs (a .area .now)) (gates (a .area .now)) (a .input) (p .1)))
 
-enum-known-number : tie.Need-enum-known-number
-enum-known-number c = search needs
-
-same-length : tie.Need-same-length
-same-length c = search needs
-
 returns : tie.Need-returns
-returns c = 
+returns c =
     let e = sym (c .before .before .before .before .before .before .before .judge-toggle .ensures) ∙ c .before .before .before .before .before .enum-told .given .1 in
     (rw e refl, rw e (c .before .before .toggle .ensures ∙ ap (toggleWords (c .before .before .before .before .before .before .before .before .before .before .args .area .now)) (c .before .before .before .index .ensures)))
 
-same-length-2 : tie.Need-same-length-2
-same-length-2 c = search needs
-
 returns-2 : tie.Need-returns-2
-returns-2 c = 
+returns-2 c =
     let e = sym (c .before .before .before .judge-toggle .ensures) ∙ c .before .number .given .1 in
     (rw e refl, rw e refl)
 
@@ -47,12 +29,12 @@ pub toggle-input-spec : {M : Type 1} → statement M
 toggle-input-spec =
     tie.close
     (tie.spec
-    judge-toggle-requires
-    enum-told
-    index-requires
+    (λ c κs. search needs)
+    (λ c. search needs)
+    (λ c κs. search needs)
     toggle-requires
-    enum-known-number
-    same-length
+    (λ c. search needs)
+    (λ c. search needs)
     returns
-    same-length-2
+    (λ c. search needs)
     returns-2)

@@ -7,21 +7,6 @@ use borrow.Author.Needs.{needs}
 use Rattle.bench_c.proofs.bench_open.Statement.{statement}
 use Rattle.bench_c.proofs.bench_open.Tie as tie
 
-open-requires : tie.Need-open-requires
-open-requires c κs = search needs
-
-enum-known-answer : tie.Need-enum-known-answer
-enum-known-answer c = search needs
-
-enum-known-answer-2 : tie.Need-enum-known-answer-2
-enum-known-answer-2 c = search needs
-
-refused-requires : tie.Need-refused-requires
-refused-requires c κs = search needs
-
-same-length : tie.Need-same-length
-same-length c = search needs
-
 returns : tie.Need-returns
 returns c =
     let a = c .before .before .before .before .before .before .before .before .before .args in
@@ -29,9 +14,6 @@ returns c =
     let judged = judgement (a .area .now) (open-image (a .image .now)) in
     let e = open-told judged (openLive (a .image .now)) .0 _ (sym (t .ensures .0) ∙ c .before .answer .given .1) in
     (rw (e .0) refl, (rw (e .0) (e .1), t .ensures .1))
-
-same-length-2 : tie.Need-same-length-2
-same-length-2 c = search needs
 
 returns-2 : tie.Need-returns-2
 returns-2 c =
@@ -45,11 +27,11 @@ pub bench-open-spec : {M : Type 1} → statement M
 bench-open-spec =
     tie.close
     (tie.spec
-    open-requires
-    enum-known-answer
-    enum-known-answer-2
-    refused-requires
-    same-length
+    (λ c κs. search needs)
+    (λ c. search needs)
+    (λ c. search needs)
+    (λ c κs. search needs)
+    (λ c. search needs)
     returns
-    same-length-2
+    (λ c. search needs)
     returns-2)

@@ -8,18 +8,6 @@ use borrow.Author.Needs.{needs}
 use Rattle.bench_c.proofs.bench_read_gate.Statement.{statement}
 use Rattle.bench_c.proofs.bench_read_gate.Tie as tie
 
-read-gate-requires : tie.Need-read-gate-requires
-read-gate-requires c κs = search needs
-
-enum-known-answer : tie.Need-enum-known-answer
-enum-known-answer c = search needs
-
-enum-known-answer-2 : tie.Need-enum-known-answer-2
-enum-known-answer-2 c = search needs
-
-refused-requires : tie.Need-refused-requires
-refused-requires c κs = search needs
-
 returns : tie.Need-returns
 returns c =
     let a = c .before .before .before .before .before .args in
@@ -40,9 +28,9 @@ pub bench-read-gate-spec : {M : Type 1} → statement M
 bench-read-gate-spec =
     tie.close
     (tie.spec
-    read-gate-requires
-    enum-known-answer
-    enum-known-answer-2
-    refused-requires
+    (λ c κs. search needs)
+    (λ c. search needs)
+    (λ c. search needs)
+    (λ c κs. search needs)
     returns
     returns-2)

@@ -7,18 +7,6 @@ use borrow.Author.Needs.{needs}
 use Rattle.bench_c.proofs.bench_read_netlist.Statement.{statement}
 use Rattle.bench_c.proofs.bench_read_netlist.Tie as tie
 
-read-netlist-requires : tie.Need-read-netlist-requires
-read-netlist-requires c κs = search needs
-
-enum-known-answer : tie.Need-enum-known-answer
-enum-known-answer c = search needs
-
-enum-known-answer-2 : tie.Need-enum-known-answer-2
-enum-known-answer-2 c = search needs
-
-refused-requires : tie.Need-refused-requires
-refused-requires c κs = search needs
-
 returns : tie.Need-returns
 returns c =
     let a = c .before .before .before .before .before .args in
@@ -39,9 +27,9 @@ pub bench-read-netlist-spec : {M : Type 1} → statement M
 bench-read-netlist-spec =
     tie.close
     (tie.spec
-    read-netlist-requires
-    enum-known-answer
-    enum-known-answer-2
-    refused-requires
+    (λ c κs. search needs)
+    (λ c. search needs)
+    (λ c. search needs)
+    (λ c κs. search needs)
     returns
     returns-2)

@@ -11,26 +11,8 @@ use borrow.Author.Needs.{needs}
 use Rattle.bench_c.proofs.bench_set_flip.Statement.{statement}
 use Rattle.bench_c.proofs.bench_set_flip.Tie as tie
 
-field-bytes-requires : tie.Need-field-bytes-requires
-field-bytes-requires c κs = search needs
-
-set-flip-requires : tie.Need-set-flip-requires
-set-flip-requires c κs = search needs
-
-enum-told : tie.Need-enum-told
-enum-told c = search needs
-
-enum-known-answer : tie.Need-enum-known-answer
-enum-known-answer c = search needs
-
-refused-requires : tie.Need-refused-requires
-refused-requires c κs = search needs
-
-same-length : tie.Need-same-length
-same-length c = search needs
-
 returns : tie.Need-returns
-returns c = 
+returns c =
     let a = c .before .before .before .before .before .before .before .before .args in
     let ws = a .area .now in
     let b = c .before .before .before .before .before .field-bytes .ensures in
@@ -40,11 +22,8 @@ returns c =
     let e = set-told judged .0 (sym told ∙ c .enum-told .given .1) in
     (rw e refl, words)
 
-same-length-2 : tie.Need-same-length-2
-same-length-2 c = search needs
-
 returns-2 : tie.Need-returns-2
-returns-2 c = 
+returns-2 c =
     let a = c .before .before .before .before .before .before .before .before .before .before .args in
     let ws = a .area .now in
     let b = c .before .before .before .before .before .before .before .field-bytes .ensures in
@@ -58,12 +37,12 @@ pub bench-set-flip-spec : {M : Type 1} → statement M
 bench-set-flip-spec =
     tie.close
     (tie.spec
-    field-bytes-requires
-    set-flip-requires
-    enum-told
-    enum-known-answer
-    refused-requires
-    same-length
+    (λ c κs. search needs)
+    (λ c κs. search needs)
+    (λ c. search needs)
+    (λ c. search needs)
+    (λ c κs. search needs)
+    (λ c. search needs)
     returns
-    same-length-2
+    (λ c. search needs)
     returns-2)

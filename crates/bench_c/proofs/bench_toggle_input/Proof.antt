@@ -6,30 +6,12 @@ use borrow.Author.Needs.{needs}
 use Rattle.bench_c.proofs.bench_toggle_input.Statement.{statement}
 use Rattle.bench_c.proofs.bench_toggle_input.Tie as tie
 
-toggle-input-requires : tie.Need-toggle-input-requires
-toggle-input-requires c κs = search needs
-
-enum-told : tie.Need-enum-told
-enum-told c = search needs
-
-enum-known-answer : tie.Need-enum-known-answer
-enum-known-answer c = search needs
-
-refused-requires : tie.Need-refused-requires
-refused-requires c κs = search needs
-
-same-length : tie.Need-same-length
-same-length c = search needs
-
 returns : tie.Need-returns
 returns c =
     let a = c .before .before .before .before .before .before .before .args in
     let t = c .before .before .before .before .toggle-input in
     let e = toggle-told (judgement (a .area .now) (toggle-input (a .input))) .0 (sym (t .ensures .0) ∙ c .enum-told .given .1) in
     (rw e refl, t .ensures .1)
-
-same-length-2 : tie.Need-same-length-2
-same-length-2 c = search needs
 
 returns-2 : tie.Need-returns-2
 returns-2 c =
@@ -42,11 +24,11 @@ pub bench-toggle-input-spec : {M : Type 1} → statement M
 bench-toggle-input-spec =
     tie.close
     (tie.spec
-    toggle-input-requires
-    enum-told
-    enum-known-answer
-    refused-requires
-    same-length
+    (λ c κs. search needs)
+    (λ c. search needs)
+    (λ c. search needs)
+    (λ c κs. search needs)
+    (λ c. search needs)
     returns
-    same-length-2
+    (λ c. search needs)
     returns-2)

@@ -17,27 +17,6 @@ no-kind (suc zero) field a b c = absurd (b refl)
 no-kind (suc (suc zero)) field a b c = absurd (c refl)
 no-kind (suc (suc (suc k))) field a b c = refl
 
-whole-field-requires : tie.Need-whole-field-requires
-whole-field-requires c κs = search needs
-
-read-never-requires : tie.Need-read-never-requires
-read-never-requires c κs = search needs
-
-whole-field-requires-2 : tie.Need-whole-field-requires-2
-whole-field-requires-2 c κs = search needs
-
-read-plain-requires : tie.Need-read-plain-requires
-read-plain-requires c κs = search needs
-
-first-half-requires : tie.Need-first-half-requires
-first-half-requires c κs = search needs
-
-second-half-requires : tie.Need-second-half-requires
-second-half-requires c κs = search needs
-
-read-strike-requires : tie.Need-read-strike-requires
-read-strike-requires c κs = search needs
-
 returns : tie.Need-returns
 unfolding readFlip flipAccepted flipOf
 returns c =
@@ -69,13 +48,13 @@ pub read-flip-spec : {M : Type 1} → statement M
 read-flip-spec =
     tie.close
     (tie.spec
-    whole-field-requires
-    read-never-requires
-    whole-field-requires-2
-    read-plain-requires
-    first-half-requires
-    second-half-requires
-    read-strike-requires
+    (λ c κs. search needs)
+    (λ c κs. search needs)
+    (λ c κs. search needs)
+    (λ c κs. search needs)
+    (λ c κs. search needs)
+    (λ c κs. search needs)
+    (λ c κs. search needs)
     returns
     returns-2
     returns-3

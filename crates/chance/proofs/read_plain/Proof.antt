@@ -13,9 +13,6 @@ use Rattle.chance.proofs.read_plain.Tie as tie
 tested : (c : tie.After-is-chance) → fromZeroToOne (ofBits binary64 (c .before .args .bits)) ≡ c .is-chance .result
 tested c = range-of-bits binary64 (c .before .args .bits) (c .before .fits .bits .fits) ∙ sym (c .is-chance .ensures)
 
-is-chance-requires : tie.Need-is-chance-requires
-is-chance-requires c κs = search needs
-
 float-from-bits-t4 : tie.Need-float-from-bits-t4
 float-from-bits-t4 c = range-no-nan-bits binary64 (c .before .before .args .bits) (tested (c .before) ∙ c .if1 .taken)
 
@@ -28,4 +25,4 @@ unfolding inRange
 returns-2 c = sym (ap (λ (b : Bool). readIf b (plainOf (c .before .before .args .bits))) (tested (c .before) ∙ c .if1 .left))
 
 pub read-plain-spec : {M : Type 1} → statement M
-read-plain-spec = tie.close (tie.spec is-chance-requires float-from-bits-t4 returns returns-2)
+read-plain-spec = tie.close (tie.spec (λ c κs. search needs) float-from-bits-t4 returns returns-2)

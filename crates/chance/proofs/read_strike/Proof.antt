@@ -26,14 +26,8 @@ answer : (chance window : ℕ) (p q : Bool) → fromZeroToOne (ofBits binary32 c
 unfolding inRange
 answer chance window p q e f = cc
 
-is-chance-requires : tie.Need-is-chance-requires
-is-chance-requires c κs = search needs
-
 returns : tie.Need-returns
 returns c = answer (c .before .before .args .chance) (c .before .before .args .window) false _ (first (c .before) ∙ not-true _ (c .if1 .taken)) refl
-
-is-chance-requires-2 : tie.Need-is-chance-requires-2
-is-chance-requires-2 c κs = search needs
 
 returns-2 : tie.Need-returns-2
 returns-2 c =
@@ -63,9 +57,9 @@ pub read-strike-spec : {M : Type 1} → statement M
 read-strike-spec =
     tie.close
     (tie.spec
-    is-chance-requires
+    (λ c κs. search needs)
     returns
-    is-chance-requires-2
+    (λ c κs. search needs)
     returns-2
     float-from-bits-t6
     float-from-bits-t7

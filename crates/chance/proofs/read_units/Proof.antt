@@ -20,19 +20,10 @@ said c =
     let a = c .before .before .before .before .args in
     read-accepted (a .kind) (a .field) (c .before .flip .given .0 .0) (sym (c .before .before .before .read-flip .ensures) ∙ c .before .flip .given .1)
 
-read-flip-requires : tie.Need-read-flip-requires
-read-flip-requires c κs = search needs
-
-enum-known-flip : tie.Need-enum-known-flip
-enum-known-flip c = search needs
-
 units-requires : tie.Need-units-requires
 units-requires c κs =
     let a = c .before .before .before .before .args in
     subst (λ (f : Flip). inRange f ≡ true) (said c .1) (accepted-in-range (a .kind) (a .field) (said c .0))
-
-enum-told : tie.Need-enum-told
-enum-told c = search needs
 
 returns : tie.Need-returns
 unfolding readUnits flipUnits flipChance
@@ -53,4 +44,4 @@ returns-2 c =
 pub read-units-spec : {M : Type 1} → statement M
 read-units-spec =
     tie.close
-    (tie.spec read-flip-requires enum-known-flip units-requires enum-told returns returns-2)
+    (tie.spec (λ c κs. search needs) (λ c. search needs) units-requires (λ c. search needs) returns returns-2)

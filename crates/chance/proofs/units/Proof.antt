@@ -14,18 +14,9 @@ use Rattle.chance.proofs.units.Tie as tie
 abbrev inUnits : Flip → ℕ
 inUnits flip = toUnits unitsInOne chanceScale (chanceOf flip)
 
-enum-told : tie.Need-enum-told
-enum-told c = search needs
-
-enum-known-flip : tie.Need-enum-known-flip
-enum-known-flip c = search needs
-
 nearest-units-requires : tie.Need-nearest-units-requires
 unfolding inRange
 nearest-units-requires c κs = subst (λ (f : Flip). inRange f ≡ true) (c .before .flip .given .1) (c .before .before .before .pre)
-
-enum-known-flip-2 : tie.Need-enum-known-flip-2
-enum-known-flip-2 c = search needs
 
 strike-units-requires : tie.Need-strike-units-requires
 strike-units-requires c κs = subst (λ (f : Flip). inRange f ≡ true) (c .before .flip2 .given .1) (c .before .before .before .pre)
@@ -45,10 +36,10 @@ pub units-spec : {M : Type 1} → statement M
 units-spec =
     tie.close
     (tie.spec
-    enum-told
-    enum-known-flip
+    (λ c. search needs)
+    (λ c. search needs)
     nearest-units-requires
-    enum-known-flip-2
+    (λ c. search needs)
     strike-units-requires
     returns
     returns-2

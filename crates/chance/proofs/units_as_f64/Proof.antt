@@ -5,12 +5,9 @@ use Rattle.chance.proofs.Exact.{scaled-exact}
 use Rattle.chance.proofs.units_as_f64.Statement.{statement}
 use Rattle.chance.proofs.units_as_f64.Tie as tie
 
-int-to-float-result : tie.Need-int-to-float-result
-int-to-float-result c = search needs
-
 returns : tie.Need-returns
 unfolding ofBits
 returns c = scaled-exact (c .before .args .units) (c .before .fits .units .fits)
 
 pub units-as-f64-spec : {M : Type 1} → statement M
-units-as-f64-spec = tie.close (tie.spec int-to-float-result returns)
+units-as-f64-spec = tie.close (tie.spec (λ c. search needs) returns)

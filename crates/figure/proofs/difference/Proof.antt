@@ -5,9 +5,6 @@ use borrow.Author.Tests.{eq-eqb, ne-eqb}
 use Rattle.figure.proofs.difference.Statement.{statement}
 use Rattle.figure.proofs.difference.Tie as tie
 
-answer-at-requires : tie.Need-answer-at-requires
-answer-at-requires c κs = search needs
-
 returns : tie.Need-returns
 returns c = simp (eq-eqb _ _ (sym (c .before .answer-at .ensures) ∙ c .if1 .taken))
 
@@ -15,4 +12,4 @@ returns-2 : tie.Need-returns-2
 returns-2 c = simp (ne-eqb _ _ (rw (c .before .answer-at .ensures) at (c .if1 .left)))
 
 pub difference-spec : {M : Type 1} → statement M
-difference-spec = tie.close (tie.spec answer-at-requires returns returns-2)
+difference-spec = tie.close (tie.spec (λ c κs. search needs) returns returns-2)

@@ -23,18 +23,6 @@ pin-adds : (s : tie.Start Inv-loop μ-loop)
     → getD (s .args .words .now) (s .args .pin) 0 % 2 * getD (s .args .bits .now) (s .args .pin) 0 ≤ getD (s .args .bits .now) (s .args .pin) 0
 pin-adds s = added (getD (s .args .words .now) (s .args .pin) 0) (getD (s .args .bits .now) (s .args .pin) 0)
 
-mul-bit : tie.Need-mul-bit Inv-loop μ-loop
-mul-bit c = search needs
-
-element-copy-out-bit : tie.Need-element-copy-out-bit Inv-loop μ-loop
-element-copy-out-bit c = search needs
-
-mul-right : tie.Need-mul-right Inv-loop μ-loop
-mul-right c = search needs
-
-element-copy-out-right : tie.Need-element-copy-out-right Inv-loop μ-loop
-element-copy-out-right c = search needs
-
 mul-right-2 : tie.Need-mul-right-2 Inv-loop μ-loop
 mul-right-2 c =
     let s = c .before .before in
@@ -46,48 +34,15 @@ sub-wrong c = pin-adds (c .before .before)
 loop-holds : tie.Need-loop-holds Inv-loop μ-loop
 loop-holds c = (omega arith, refl, refl)
 
-mul-x : tie.Need-mul-x Inv-loop μ-loop
-mul-x c = search needs
-
-array-read-x : tie.Need-array-read-x Inv-loop μ-loop
-array-read-x c = search needs
-
 add-spread : tie.Need-add-spread Inv-loop μ-loop
 add-spread c =
     let s = c .before .before .before .before in
     omega (arith, s .pre .1 (c .before .loop .i) (omega arith), pin-adds s)
 
-mul-spread : tie.Need-mul-spread Inv-loop μ-loop
-mul-spread c = search needs
-
-mul-spread-2 : tie.Need-mul-spread-2 Inv-loop μ-loop
-mul-spread-2 c = search needs
-
-array-write-spread : tie.Need-array-write-spread Inv-loop μ-loop
-array-write-spread c = search needs
-
 add-spread-2 : tie.Need-add-spread-2 Inv-loop μ-loop
 add-spread-2 c =
     let s = c .before .before .before .before in
     omega (arith, s .pre .1 (c .before .loop .i) (omega arith), pin-adds s)
-
-mul-spread-3 : tie.Need-mul-spread-3 Inv-loop μ-loop
-mul-spread-3 c = search needs
-
-add-spread-3 : tie.Need-add-spread-3 Inv-loop μ-loop
-add-spread-3 c = search needs
-
-mul-spread-4 : tie.Need-mul-spread-4 Inv-loop μ-loop
-mul-spread-4 c = search needs
-
-array-write-spread-2 : tie.Need-array-write-spread-2 Inv-loop μ-loop
-array-write-spread-2 c = search needs
-
-add-i : tie.Need-add-i Inv-loop μ-loop
-add-i c = search needs
-
-loop-less : tie.Need-loop-less Inv-loop μ-loop
-loop-less c = search needs
 
 loop-again : tie.Need-loop-again Inv-loop μ-loop
 loop-again c =
@@ -108,25 +63,25 @@ spread-pin-spec =
     (tie.spec
     Inv-loop
     μ-loop
-    mul-bit
-    element-copy-out-bit
-    mul-right
-    element-copy-out-right
+    (λ c. search needs)
+    (λ c. search needs)
+    (λ c. search needs)
+    (λ c. search needs)
     mul-right-2
     sub-wrong
     loop-holds
-    mul-x
-    array-read-x
+    (λ c. search needs)
+    (λ c. search needs)
     add-spread
-    mul-spread
-    mul-spread-2
-    array-write-spread
+    (λ c. search needs)
+    (λ c. search needs)
+    (λ c. search needs)
     add-spread-2
-    mul-spread-3
-    add-spread-3
-    mul-spread-4
-    array-write-spread-2
-    add-i
-    loop-less
+    (λ c. search needs)
+    (λ c. search needs)
+    (λ c. search needs)
+    (λ c. search needs)
+    (λ c. search needs)
+    (λ c. search needs)
     loop-again
     returns)

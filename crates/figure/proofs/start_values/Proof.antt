@@ -22,35 +22,11 @@ abbrev μ-loop : tie.MeasureT-loop
 μ-loop table used indices right values₀ i₀ values i =
     used - i
 
-array-read-answer-at : tie.Need-array-read-answer-at Inv-loop μ-loop
-array-read-answer-at c = search needs
-
 answer-at-requires : tie.Need-answer-at-requires Inv-loop μ-loop
 answer-at-requires c κs = c .pre .1 0 (omega arith)
 
-loop-holds : tie.Need-loop-holds Inv-loop μ-loop
-loop-holds c = search needs
-
-mul-difference : tie.Need-mul-difference Inv-loop μ-loop
-mul-difference c = search needs
-
-array-read-difference : tie.Need-array-read-difference Inv-loop μ-loop
-array-read-difference c = search needs
-
 difference-requires : tie.Need-difference-requires Inv-loop μ-loop
 difference-requires c κs = c .before .before .before .pre .1 (c .before .loop .i) (omega arith)
-
-mul-values : tie.Need-mul-values Inv-loop μ-loop
-mul-values c = search needs
-
-array-write-values : tie.Need-array-write-values Inv-loop μ-loop
-array-write-values c = search needs
-
-add-i : tie.Need-add-i Inv-loop μ-loop
-add-i c = search needs
-
-loop-less : tie.Need-loop-less Inv-loop μ-loop
-loop-less c = search needs
 
 loop-again : tie.Need-loop-again Inv-loop μ-loop
 loop-again c =
@@ -80,15 +56,15 @@ start-values-spec =
     (tie.spec
     Inv-loop
     μ-loop
-    array-read-answer-at
+    (λ c. search needs)
     answer-at-requires
-    loop-holds
-    mul-difference
-    array-read-difference
+    (λ c. search needs)
+    (λ c. search needs)
+    (λ c. search needs)
     difference-requires
-    mul-values
-    array-write-values
-    add-i
-    loop-less
+    (λ c. search needs)
+    (λ c. search needs)
+    (λ c. search needs)
+    (λ c. search needs)
     loop-again
     returns)

@@ -10,9 +10,6 @@ use Rattle.figure.specs.Steps.{lastValue, pinsWord}
 use Rattle.figure.proofs.word_none.Statement.{statement}
 use Rattle.figure.proofs.word_none.Tie as tie
 
-word-of-requires : tie.Need-word-of-requires
-word-of-requires c κs = search needs
-
 returns : tie.Need-returns
 unfolding pinsWord lastValue
 returns c =
@@ -22,4 +19,4 @@ returns c =
     ∙ ap (λ (b : Bool). 2 * gateStep unitsInOne (cond b 0 unitsInOne) (s .flip) + right) (sym (eq-eqb right right refl))
 
 pub word-none-spec : {M : Type 1} → statement M
-word-none-spec = tie.close (tie.spec word-of-requires returns)
+word-none-spec = tie.close (tie.spec (λ c κs. search needs) returns)

@@ -11,39 +11,6 @@ use Rattle.image.specs.Refusals.{backRight}
 use Rattle.image.proofs.back_right.Statement.{statement}
 use Rattle.image.proofs.back_right.Tie as tie
 
-sub-at : tie.Need-sub-at
-sub-at c = search needs
-
-add-four-bytes : tie.Need-add-four-bytes
-add-four-bytes c = search needs
-
-four-bytes-requires : tie.Need-four-bytes-requires
-four-bytes-requires c κs = search needs
-
-index-requires : tie.Need-index-requires
-index-requires c κs = search needs
-
-add-count : tie.Need-add-count
-add-count c = search needs
-
-count-requires : tie.Need-count-requires
-count-requires c κs = search needs
-
-add-count-2 : tie.Need-add-count-2
-add-count-2 c = search needs
-
-count-requires-2 : tie.Need-count-requires-2
-count-requires-2 c κs = search needs
-
-mul-if1 : tie.Need-mul-if1
-mul-if1 c = search needs
-
-mul-if1-2 : tie.Need-mul-if1-2
-mul-if1-2 c = search needs
-
-add-if1 : tie.Need-add-if1
-add-if1 c = search needs
-
 returns : tie.Need-returns
 unfolding backRight
 returns c =
@@ -63,16 +30,16 @@ pub back-right-spec : {M : Type 1} → statement M
 back-right-spec =
     tie.close
     (tie.spec
-    sub-at
-    add-four-bytes
-    four-bytes-requires
-    index-requires
-    add-count
-    count-requires
-    add-count-2
-    count-requires-2
-    mul-if1
-    mul-if1-2
-    add-if1
+    (λ c. search needs)
+    (λ c. search needs)
+    (λ c κs. search needs)
+    (λ c κs. search needs)
+    (λ c. search needs)
+    (λ c κs. search needs)
+    (λ c. search needs)
+    (λ c κs. search needs)
+    (λ c. search needs)
+    (λ c. search needs)
+    (λ c. search needs)
     returns
     returns-2)

@@ -14,21 +14,9 @@ returns : tie.Need-returns
 unfolding trailerRefusal lengthRight
 returns c = simp (lt-leb _ _ (c .if1 .taken))
 
-length-right-requires : tie.Need-length-right-requires
-length-right-requires c κs = search needs
-
 returns-2 : tie.Need-returns-2
 unfolding trailerRefusal
 returns-2 c = simp (← c .before .length-right .ensures, not-true (c .before .length-right .result) (c .if2 .taken))
-
-sub-at : tie.Need-sub-at
-sub-at c = search needs
-
-add-two-bytes : tie.Need-add-two-bytes
-add-two-bytes c = search needs
-
-two-bytes-requires : tie.Need-two-bytes-requires
-two-bytes-requires c κs = search needs
 
 returns-3 : tie.Need-returns-3
 unfolding trailerRefusal
@@ -37,24 +25,6 @@ returns-3 c =
     let right = c .before .before .before .length-right in
     let other = ne-eqb (imageFormat bs) knownFormat (λ e. c .if3 .taken (c .before .two-bytes .ensures .0 ∙ e)) in
     simp (← right .ensures, not-false (right .result) (c .before .before .if2 .left), other)
-
-count-requires : tie.Need-count-requires
-count-requires c κs = search needs
-
-add-count : tie.Need-add-count
-add-count c = search needs
-
-count-requires-2 : tie.Need-count-requires-2
-count-requires-2 c κs = search needs
-
-add-count-2 : tie.Need-add-count-2
-add-count-2 c = search needs
-
-count-requires-3 : tie.Need-count-requires-3
-count-requires-3 c κs = search needs
-
-counts-in-range-requires : tie.Need-counts-in-range-requires
-counts-in-range-requires c κs = search needs
 
 -- what is left once 1 and 2 are passed
 left-over : (c : tie.After-counts-in-range) →
@@ -71,9 +41,6 @@ left-over c =
 
 returns-4 : tie.Need-returns-4
 returns-4 c = rw (left-over (c .before), not-true (c .before .counts-in-range .result) (c .if4 .taken))
-
-back-right-requires : tie.Need-back-right-requires
-back-right-requires c κs = search needs
 
 returns-5 : tie.Need-returns-5
 returns-5 c =
@@ -92,19 +59,19 @@ judge-trailer-spec =
     tie.close
     (tie.spec
     returns
-    length-right-requires
+    (λ c κs. search needs)
     returns-2
-    sub-at
-    add-two-bytes
-    two-bytes-requires
+    (λ c. search needs)
+    (λ c. search needs)
+    (λ c κs. search needs)
     returns-3
-    count-requires
-    add-count
-    count-requires-2
-    add-count-2
-    count-requires-3
-    counts-in-range-requires
+    (λ c κs. search needs)
+    (λ c. search needs)
+    (λ c κs. search needs)
+    (λ c. search needs)
+    (λ c κs. search needs)
+    (λ c κs. search needs)
     returns-4
-    back-right-requires
+    (λ c κs. search needs)
     returns-5
     returns-6)

@@ -15,18 +15,6 @@ returns : tie.Need-returns
 unfolding lengthRight
 returns c = simp (le-leb _ _ (c .before .before .pre), lt-leb _ _ (c .if1 .taken))
 
-sub-four-bytes : tie.Need-sub-four-bytes
-sub-four-bytes c = search needs
-
-add-four-bytes : tie.Need-add-four-bytes
-add-four-bytes c = search needs
-
-four-bytes-requires : tie.Need-four-bytes-requires
-four-bytes-requires c κs = search needs
-
-index-requires : tie.Need-index-requires
-index-requires c κs = search needs
-
 returns-2 : tie.Need-returns-2
 unfolding lengthRight
 returns-2 c =
@@ -36,4 +24,4 @@ returns-2 c =
 pub length-right-spec : {M : Type 1} → statement M
 length-right-spec =
     tie.close
-    (tie.spec returns sub-four-bytes add-four-bytes four-bytes-requires index-requires returns-2)
+    (tie.spec returns (λ c. search needs) (λ c. search needs) (λ c κs. search needs) (λ c κs. search needs) returns-2)

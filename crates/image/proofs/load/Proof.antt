@@ -14,22 +14,10 @@ use Rattle.image.proofs.Middle.{stored-front}
 use Rattle.image.proofs.load.Statement.{statement}
 use Rattle.image.proofs.load.Tie as tie
 
-judge-trailer-requires : tie.Need-judge-trailer-requires
-judge-trailer-requires c κs = search needs
-
-enum-told : tie.Need-enum-told
-enum-told c = search needs
-
 load-netlist-requires : tie.Need-load-netlist-requires
 load-netlist-requires c κs =
     let passed = sym (c .before .before .before .judge-trailer .ensures) ∙ c .before .enum-told .given .1 in
     (trailer-right (now (c .before .before .before .before .before .before .args .image)) passed, search needs)
-
-enum-known-number : tie.Need-enum-known-number
-enum-known-number c = search needs
-
-same-length : tie.Need-same-length
-same-length c = search needs
 
 returns : tie.Need-returns
 unfolding imageRefusal
@@ -55,10 +43,10 @@ pub load-spec : {M : Type 1} → statement M
 load-spec =
     tie.close
     (tie.spec
-    judge-trailer-requires
-    enum-told
+    (λ c κs. search needs)
+    (λ c. search needs)
     load-netlist-requires
-    enum-known-number
-    same-length
+    (λ c. search needs)
+    (λ c. search needs)
     returns
     returns-2)

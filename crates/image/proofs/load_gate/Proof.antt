@@ -18,36 +18,6 @@ use Rattle.image.proofs.Middle.{record-stored}
 use Rattle.image.proofs.load_gate.Statement.{statement}
 use Rattle.image.proofs.load_gate.Tie as tie
 
-mul-at : tie.Need-mul-at
-mul-at c = search needs
-
-shared-slice-read-wide : tie.Need-shared-slice-read-wide
-shared-slice-read-wide c = search needs
-
-wide-requires : tie.Need-wide-requires
-wide-requires c κs = search needs
-
-index-requires : tie.Need-index-requires
-index-requires c κs = search needs
-
-add-two-bytes : tie.Need-add-two-bytes
-add-two-bytes c = search needs
-
-two-bytes-requires : tie.Need-two-bytes-requires
-two-bytes-requires c κs = search needs
-
-add-four-numbers : tie.Need-add-four-numbers
-add-four-numbers c = search needs
-
-four-numbers-requires : tie.Need-four-numbers-requires
-four-numbers-requires c κs = search needs
-
-gate-shape-requires : tie.Need-gate-shape-requires
-gate-shape-requires c κs = search needs
-
-cast-t18 : tie.Need-cast-t18
-cast-t18 c = search needs
-
 -- the first test as the code asked it
 shape : (c : tie.After-gate-shape) →
     let a = c .before .before .before .before .before .before .before .before .args in
@@ -59,16 +29,10 @@ returns : tie.Need-returns
 unfolding gateRefusal
 returns c = (simp (shape (c .before), not-true (c .before .gate-shape .result) (c .if1 .taken)), refused-not-fine 5 _)
 
-add-used-below : tie.Need-add-used-below
-add-used-below c = search needs
-
 used-below-requires : tie.Need-used-below-requires
 used-below-requires c κs =
     let passed = sym (c .before .gate-shape .ensures) ∙ not-false (c .before .gate-shape .result) (c .if1 .left) in
     shape-holds _ (c .before .before .before .two-bytes .result) (c .before .before .four-numbers .result) passed .pin-count
-
-cast-t19 : tie.Need-cast-t19
-cast-t19 c = search needs
 
 -- what is left once 5 is passed
 left-over : (c : tie.After-used-below) →
@@ -85,54 +49,6 @@ left-over c =
 
 returns-2 : tie.Need-returns-2
 returns-2 c = (rw (left-over (c .before), not-true (c .before .used-below .result) (c .if2 .taken)), refused-not-fine 6 _)
-
-add-read-units : tie.Need-add-read-units
-add-read-units c = search needs
-
-shared-slice-read-read-units : tie.Need-shared-slice-read-read-units
-shared-slice-read-read-units c = search needs
-
-add-eight-bytes : tie.Need-add-eight-bytes
-add-eight-bytes c = search needs
-
-eight-bytes-requires : tie.Need-eight-bytes-requires
-eight-bytes-requires c κs = search needs
-
-read-units-requires : tie.Need-read-units-requires
-read-units-requires c κs = search needs
-
-enum-known-units : tie.Need-enum-known-units
-enum-known-units c = search needs
-
-array-read-t27 : tie.Need-array-read-t27
-array-read-t27 c = search needs
-
-array-read-t30 : tie.Need-array-read-t30
-array-read-t30 c = search needs
-
-array-read-t33 : tie.Need-array-read-t33
-array-read-t33 c = search needs
-
-array-read-t36 : tie.Need-array-read-t36
-array-read-t36 c = search needs
-
-gate-index-requires : tie.Need-gate-index-requires
-gate-index-requires c κs = search needs
-
-slice-aggregate-store : tie.Need-slice-aggregate-store
-slice-aggregate-store c = search needs
-
-store-requires : tie.Need-store-requires
-store-requires c κs = search needs
-
-enum-told : tie.Need-enum-told
-enum-told c = search needs
-
-cast-t43 : tie.Need-cast-t43
-cast-t43 c = search needs
-
-same-length : tie.Need-same-length
-same-length c = search needs
 
 returns-3 : tie.Need-returns-3
 returns-3 c =
@@ -163,36 +79,36 @@ pub load-gate-spec : {M : Type 1} → statement M
 load-gate-spec =
     tie.close
     (tie.spec
-    mul-at
-    shared-slice-read-wide
-    wide-requires
-    index-requires
-    add-two-bytes
-    two-bytes-requires
-    add-four-numbers
-    four-numbers-requires
-    gate-shape-requires
-    cast-t18
+    (λ c. search needs)
+    (λ c. search needs)
+    (λ c κs. search needs)
+    (λ c κs. search needs)
+    (λ c. search needs)
+    (λ c κs. search needs)
+    (λ c. search needs)
+    (λ c κs. search needs)
+    (λ c κs. search needs)
+    (λ c. search needs)
     returns
-    add-used-below
+    (λ c. search needs)
     used-below-requires
-    cast-t19
+    (λ c. search needs)
     returns-2
-    add-read-units
-    shared-slice-read-read-units
-    add-eight-bytes
-    eight-bytes-requires
-    read-units-requires
-    enum-known-units
-    array-read-t27
-    array-read-t30
-    array-read-t33
-    array-read-t36
-    gate-index-requires
-    slice-aggregate-store
-    store-requires
-    enum-told
-    cast-t43
-    same-length
+    (λ c. search needs)
+    (λ c. search needs)
+    (λ c. search needs)
+    (λ c κs. search needs)
+    (λ c κs. search needs)
+    (λ c. search needs)
+    (λ c. search needs)
+    (λ c. search needs)
+    (λ c. search needs)
+    (λ c. search needs)
+    (λ c κs. search needs)
+    (λ c. search needs)
+    (λ c κs. search needs)
+    (λ c. search needs)
+    (λ c. search needs)
+    (λ c. search needs)
     returns-3
     returns-4)

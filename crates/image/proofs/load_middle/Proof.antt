@@ -10,36 +10,6 @@ use Rattle.image.proofs.Middle.{middle-words}
 use Rattle.image.proofs.load_middle.Statement.{statement}
 use Rattle.image.proofs.load_middle.Tie as tie
 
-cast-t9 : tie.Need-cast-t9
-cast-t9 c = search needs
-
-cast-t10 : tie.Need-cast-t10
-cast-t10 c = search needs
-
-cast-t11 : tie.Need-cast-t11
-cast-t11 c = search needs
-
-slice-aggregate-store : tie.Need-slice-aggregate-store
-slice-aggregate-store c = search needs
-
-store-requires : tie.Need-store-requires
-store-requires c κs = search needs
-
-load-gates-requires : tie.Need-load-gates-requires
-load-gates-requires c κs = search needs
-
-enum-told : tie.Need-enum-told
-enum-told c = search needs
-
-load-outputs-requires : tie.Need-load-outputs-requires
-load-outputs-requires c κs = search needs
-
-enum-known-number : tie.Need-enum-known-number
-enum-known-number c = search needs
-
-same-length : tie.Need-same-length
-same-length c = search needs
-
 returns : tie.Need-returns
 unfolding middleRefusal
 returns c =
@@ -53,9 +23,6 @@ returns c =
     let stored = first .before .before .before .before .store .ensures in
     (os .ensures .0 ∙ sym rest, λ e. middle-words m (a .inputs) (a .gates) (a .outputs) (now (a .words)) _ _ _ stored (gs .ensures .1 told) (os .ensures .1 e))
 
-same-length-2 : tie.Need-same-length-2
-same-length-2 c = search needs
-
 returns-2 : tie.Need-returns-2
 unfolding middleRefusal
 returns-2 c =
@@ -66,16 +33,16 @@ pub load-middle-spec : {M : Type 1} → statement M
 load-middle-spec =
     tie.close
     (tie.spec
-    cast-t9
-    cast-t10
-    cast-t11
-    slice-aggregate-store
-    store-requires
-    load-gates-requires
-    enum-told
-    load-outputs-requires
-    enum-known-number
-    same-length
+    (λ c. search needs)
+    (λ c. search needs)
+    (λ c. search needs)
+    (λ c. search needs)
+    (λ c κs. search needs)
+    (λ c κs. search needs)
+    (λ c. search needs)
+    (λ c κs. search needs)
+    (λ c. search needs)
+    (λ c. search needs)
     returns
-    same-length-2
+    (λ c. search needs)
     returns-2)

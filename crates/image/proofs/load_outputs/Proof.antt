@@ -22,18 +22,6 @@ abbrev μ-loop : tie.MeasureT-loop
 loop-holds : tie.Need-loop-holds Inv-loop μ-loop
 loop-holds c = (omega arith, starts _ _ _ _)
 
-load-output-requires : tie.Need-load-output-requires Inv-loop μ-loop
-load-output-requires c κs = search needs
-
-enum-told : tie.Need-enum-told Inv-loop μ-loop
-enum-told c = search needs
-
-add-k : tie.Need-add-k Inv-loop μ-loop
-add-k c = search needs
-
-loop-less : tie.Need-loop-less Inv-loop μ-loop
-loop-less c = search needs
-
 loop-again : tie.Need-loop-again Inv-loop μ-loop
 loop-again c =
     let l = c .before .before .before .before .before .before .before .loop in
@@ -42,21 +30,12 @@ loop-again c =
     let place = output-place (now (a .middle)) (a .gates) (l .k) in
     (omega arith, goes-on (l .inv .1) (outputsIndex (a .gates) + l .k) (step .result) _ place (step .ensures) (c .enum-told .given .1))
 
-enum-known-number : tie.Need-enum-known-number Inv-loop μ-loop
-enum-known-number c = search needs
-
-same-length : tie.Need-same-length Inv-loop μ-loop
-same-length c = search needs
-
 returns : tie.Need-returns Inv-loop μ-loop
 returns c =
     let passed = c .before .before .before .before .before .before .before .before .loop .inv .1 in
     let a = c .before .before .before .before .before .before .before .before .before .before .before .args in
     let step = c .before .before .before .before .before .load-output in
     stops passed (a .outputs) _ _ (step .result) _ (omega arith) (step .ensures .0) (c .before .number .given .1)
-
-same-length-2 : tie.Need-same-length-2 Inv-loop μ-loop
-same-length-2 c = search needs
 
 returns-2 : tie.Need-returns-2 Inv-loop μ-loop
 returns-2 c = ends (c .before .loop .inv .1) (c .before .before .before .before .args .outputs) (omega arith)
@@ -68,13 +47,13 @@ load-outputs-spec =
     Inv-loop
     μ-loop
     loop-holds
-    load-output-requires
-    enum-told
-    add-k
-    loop-less
+    (λ c κs. search needs)
+    (λ c. search needs)
+    (λ c. search needs)
+    (λ c. search needs)
     loop-again
-    enum-known-number
-    same-length
+    (λ c. search needs)
+    (λ c. search needs)
     returns
-    same-length-2
+    (λ c. search needs)
     returns-2)

@@ -23,28 +23,10 @@ abbrev μ-loop : tie.MeasureT-loop
 loop-holds : tie.Need-loop-holds Inv-loop μ-loop
 loop-holds c = ((omega arith, c .pre .0 .2, below-none _), λ k past. refl)
 
-mul-starts : tie.Need-mul-starts Inv-loop μ-loop
-mul-starts c = search needs
-
-add-starts : tie.Need-add-starts Inv-loop μ-loop
-add-starts c = search needs
-
-mul-starts-2 : tie.Need-mul-starts-2 Inv-loop μ-loop
-mul-starts-2 c = search needs
-
-element-copy-out-starts : tie.Need-element-copy-out-starts Inv-loop μ-loop
-element-copy-out-starts c = search needs
-
 mul-starts-3 : tie.Need-mul-starts-3 Inv-loop μ-loop
 mul-starts-3 c =
     let s = c .before .before .before in
     omega (arith, added (laneWord (s .args .lanes .now) (c .before .before .loop .l) (s .args .source)) (s .args .bit), s .pre .0 .1)
-
-mul-starts-4 : tie.Need-mul-starts-4 Inv-loop μ-loop
-mul-starts-4 c = search needs
-
-element-copy-out-starts-2 : tie.Need-element-copy-out-starts-2 Inv-loop μ-loop
-element-copy-out-starts-2 c = search needs
 
 add-starts-2 : tie.Need-add-starts-2 Inv-loop μ-loop
 add-starts-2 c =
@@ -57,15 +39,6 @@ add-starts-2 c =
       s .pre .1 (l .l) (omega arith),
       s .pre .0 .1,
     )
-
-element-write-starts : tie.Need-element-write-starts Inv-loop μ-loop
-element-write-starts c = search needs
-
-add-l : tie.Need-add-l Inv-loop μ-loop
-add-l c = search needs
-
-loop-less : tie.Need-loop-less Inv-loop μ-loop
-loop-less c = search needs
 
 loop-again : tie.Need-loop-again Inv-loop μ-loop
 loop-again c =
@@ -86,16 +59,16 @@ add-input-spec =
     Inv-loop
     μ-loop
     loop-holds
-    mul-starts
-    add-starts
-    mul-starts-2
-    element-copy-out-starts
+    (λ c. search needs)
+    (λ c. search needs)
+    (λ c. search needs)
+    (λ c. search needs)
     mul-starts-3
-    mul-starts-4
-    element-copy-out-starts-2
+    (λ c. search needs)
+    (λ c. search needs)
     add-starts-2
-    element-write-starts
-    add-l
-    loop-less
+    (λ c. search needs)
+    (λ c. search needs)
+    (λ c. search needs)
     loop-again
     returns)

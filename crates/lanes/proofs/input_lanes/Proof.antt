@@ -20,31 +20,10 @@ abbrev μ-loop : tie.MeasureT-loop
 loop-holds : tie.Need-loop-holds Inv-loop μ-loop
 loop-holds c = (omega arith, (omega arith, c .pre .1, below-none _))
 
-mul-loop : tie.Need-mul-loop Inv-loop μ-loop
-mul-loop c = search needs
-
-add-lanes : tie.Need-add-lanes Inv-loop μ-loop
-add-lanes c = search needs
-
-shr-lanes : tie.Need-shr-lanes Inv-loop μ-loop
-shr-lanes c = search needs
-
 cast-lanes : tie.Need-cast-lanes Inv-loop μ-loop
 cast-lanes c =
     let l = c .before .loop in
     omega (arith, shr-le (c .before .before .args .first + l .at % laneCount) (l .at / laneCount))
-
-mul-lanes : tie.Need-mul-lanes Inv-loop μ-loop
-mul-lanes c = search needs
-
-element-write-lanes : tie.Need-element-write-lanes Inv-loop μ-loop
-element-write-lanes c = search needs
-
-add-at : tie.Need-add-at Inv-loop μ-loop
-add-at c = search needs
-
-loop-less : tie.Need-loop-less Inv-loop μ-loop
-loop-less c = search needs
 
 loop-again : tie.Need-loop-again Inv-loop μ-loop
 loop-again c =
@@ -69,13 +48,13 @@ input-lanes-spec =
     Inv-loop
     μ-loop
     loop-holds
-    mul-loop
-    add-lanes
-    shr-lanes
+    (λ c. search needs)
+    (λ c. search needs)
+    (λ c. search needs)
     cast-lanes
-    mul-lanes
-    element-write-lanes
-    add-at
-    loop-less
+    (λ c. search needs)
+    (λ c. search needs)
+    (λ c. search needs)
+    (λ c. search needs)
     loop-again
     returns)

@@ -22,28 +22,10 @@ abbrev μ-loop : tie.MeasureT-loop
 loop-holds : tie.Need-loop-holds Inv-loop μ-loop
 loop-holds c = (omega arith, refl, below-none _)
 
-mul-word-none : tie.Need-mul-word-none Inv-loop μ-loop
-mul-word-none c = search needs
-
-element-copy-out-word-none : tie.Need-element-copy-out-word-none Inv-loop μ-loop
-element-copy-out-word-none c = search needs
-
 word-none-requires : tie.Need-word-none-requires Inv-loop μ-loop
 word-none-requires c κs =
     let s = c .before .before .before in
     (s .pre .1 (c .before .before .loop .l) (omega arith), s .pre .0)
-
-mul-words : tie.Need-mul-words Inv-loop μ-loop
-mul-words c = search needs
-
-array-write-words : tie.Need-array-write-words Inv-loop μ-loop
-array-write-words c = search needs
-
-add-l : tie.Need-add-l Inv-loop μ-loop
-add-l c = search needs
-
-loop-less : tie.Need-loop-less Inv-loop μ-loop
-loop-less c = search needs
 
 loop-again : tie.Need-loop-again Inv-loop μ-loop
 loop-again c =
@@ -60,12 +42,12 @@ lanes-none-spec =
     Inv-loop
     μ-loop
     loop-holds
-    mul-word-none
-    element-copy-out-word-none
+    (λ c. search needs)
+    (λ c. search needs)
     word-none-requires
-    mul-words
-    array-write-words
-    add-l
-    loop-less
+    (λ c. search needs)
+    (λ c. search needs)
+    (λ c. search needs)
+    (λ c. search needs)
     loop-again
     returns)

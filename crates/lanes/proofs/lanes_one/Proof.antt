@@ -15,20 +15,11 @@ Inv-loop lanes table flip sources starts bits words₀ l₀ words l = Filled lan
 abbrev μ-loop : tie.MeasureT-loop
 μ-loop lanes table flip sources starts bits words₀ l₀ words l = laneCount - l
 
-array-read-t14 : tie.Need-array-read-t14 Inv-loop μ-loop
-array-read-t14 c = search needs
-
 loop-holds : tie.Need-loop-holds Inv-loop μ-loop
 loop-holds c = (omega arith, refl, below-none _)
 
 kept-words-requires : tie.Need-kept-words-requires Inv-loop μ-loop
 kept-words-requires c κs = ((omega arith, c .loop-test .taken), c .before .before .pre .1 .readable)
-
-mul-word-one : tie.Need-mul-word-one Inv-loop μ-loop
-mul-word-one c = search needs
-
-element-copy-out-word-one : tie.Need-element-copy-out-word-one Inv-loop μ-loop
-element-copy-out-word-one c = search needs
 
 word-one-requires : tie.Need-word-one-requires Inv-loop μ-loop
 word-one-requires c κs =
@@ -39,18 +30,6 @@ word-one-requires c κs =
       (s .pre .1 .fits l less, s .pre .0),
       kept-failures (s .args .lanes .now) (s .args .starts .now) 1 (s .args .sources) (s .args .t5) (read .result) l less (read .ensures) (s .pre .1),
     )
-
-mul-words : tie.Need-mul-words Inv-loop μ-loop
-mul-words c = search needs
-
-array-write-words : tie.Need-array-write-words Inv-loop μ-loop
-array-write-words c = search needs
-
-add-l : tie.Need-add-l Inv-loop μ-loop
-add-l c = search needs
-
-loop-less : tie.Need-loop-less Inv-loop μ-loop
-loop-less c = search needs
 
 loop-again : tie.Need-loop-again Inv-loop μ-loop
 loop-again c =
@@ -69,15 +48,15 @@ lanes-one-spec =
     (tie.spec
     Inv-loop
     μ-loop
-    array-read-t14
+    (λ c. search needs)
     loop-holds
     kept-words-requires
-    mul-word-one
-    element-copy-out-word-one
+    (λ c. search needs)
+    (λ c. search needs)
     word-one-requires
-    mul-words
-    array-write-words
-    add-l
-    loop-less
+    (λ c. search needs)
+    (λ c. search needs)
+    (λ c. search needs)
+    (λ c. search needs)
     loop-again
     returns)

@@ -15,26 +15,11 @@ Inv-loop lanes table flip sources starts bits words₀ l₀ words l = Filled lan
 abbrev μ-loop : tie.MeasureT-loop
 μ-loop lanes table flip sources starts bits words₀ l₀ words l = laneCount - l
 
-array-read-t14 : tie.Need-array-read-t14 Inv-loop μ-loop
-array-read-t14 c = search needs
-
-array-read-t17 : tie.Need-array-read-t17 Inv-loop μ-loop
-array-read-t17 c = search needs
-
-array-read-t20 : tie.Need-array-read-t20 Inv-loop μ-loop
-array-read-t20 c = search needs
-
 loop-holds : tie.Need-loop-holds Inv-loop μ-loop
 loop-holds c = (omega arith, refl, below-none _)
 
 kept-words-requires : tie.Need-kept-words-requires Inv-loop μ-loop
 kept-words-requires c κs = ((omega arith, c .loop-test .taken), c .before .before .pre .1 .readable)
-
-mul-word-three : tie.Need-mul-word-three Inv-loop μ-loop
-mul-word-three c = search needs
-
-element-copy-out-word-three : tie.Need-element-copy-out-word-three Inv-loop μ-loop
-element-copy-out-word-three c = search needs
 
 word-three-requires : tie.Need-word-three-requires Inv-loop μ-loop
 word-three-requires c κs =
@@ -45,18 +30,6 @@ word-three-requires c κs =
       (s .pre .1 .fits l less, s .pre .0),
       kept-failures (s .args .lanes .now) (s .args .starts .now) 3 (s .args .sources) (s .args .t5) (read .result) l less (read .ensures) (s .pre .1),
     )
-
-mul-words : tie.Need-mul-words Inv-loop μ-loop
-mul-words c = search needs
-
-array-write-words : tie.Need-array-write-words Inv-loop μ-loop
-array-write-words c = search needs
-
-add-l : tie.Need-add-l Inv-loop μ-loop
-add-l c = search needs
-
-loop-less : tie.Need-loop-less Inv-loop μ-loop
-loop-less c = search needs
 
 loop-again : tie.Need-loop-again Inv-loop μ-loop
 loop-again c =
@@ -75,17 +48,17 @@ lanes-three-spec =
     (tie.spec
     Inv-loop
     μ-loop
-    array-read-t14
-    array-read-t17
-    array-read-t20
+    (λ c. search needs)
+    (λ c. search needs)
+    (λ c. search needs)
     loop-holds
     kept-words-requires
-    mul-word-three
-    element-copy-out-word-three
+    (λ c. search needs)
+    (λ c. search needs)
     word-three-requires
-    mul-words
-    array-write-words
-    add-l
-    loop-less
+    (λ c. search needs)
+    (λ c. search needs)
+    (λ c. search needs)
+    (λ c. search needs)
     loop-again
     returns)

@@ -21,12 +21,6 @@ Inv-loop area lanes gate inputs count kept₀ sources₀ bits₀ starts₀ bit�
 abbrev μ-loop : tie.MeasureT-loop
 μ-loop area lanes gate inputs count kept₀ sources₀ bits₀ starts₀ bit₀ i₀ kept sources bits starts bit i = count - i
 
-inputs-requires : tie.Need-inputs-requires Inv-loop μ-loop
-inputs-requires c κs = search needs
-
-pin-count-requires : tie.Need-pin-count-requires Inv-loop μ-loop
-pin-count-requires c κs = search needs
-
 loop-holds : tie.Need-loop-holds Inv-loop μ-loop
 loop-holds c =
     let s = c .before .before .before in (
@@ -97,12 +91,6 @@ add-kept c = omega (arith, room (c .before))
 mul-bit : tie.Need-mul-bit Inv-loop μ-loop
 mul-bit c = omega (arith, small (c .before .before) 0 (omega arith) .0)
 
-add-i : tie.Need-add-i Inv-loop μ-loop
-add-i c = search needs
-
-loop-less : tie.Need-loop-less Inv-loop μ-loop
-loop-less c = search needs
-
 -- a pin that reads an input moves the starts; any other is kept
 loop-again : tie.Need-loop-again Inv-loop μ-loop
 loop-again c =
@@ -146,8 +134,8 @@ split-lanes-spec =
     (tie.spec
     Inv-loop
     μ-loop
-    inputs-requires
-    pin-count-requires
+    (λ c κs. search needs)
+    (λ c κs. search needs)
     loop-holds
     pin-requires
     add-input-requires
@@ -157,7 +145,7 @@ split-lanes-spec =
     array-write-bits
     add-kept
     mul-bit
-    add-i
-    loop-less
+    (λ c. search needs)
+    (λ c. search needs)
     loop-again
     returns)

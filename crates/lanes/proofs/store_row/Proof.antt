@@ -22,30 +22,6 @@ abbrev μ-loop : tie.MeasureT-loop
 loop-holds : tie.Need-loop-holds Inv-loop μ-loop
 loop-holds c = (omega arith, c .pre .1, (λ i less. absurd (omega arith)), λ t i other less. refl)
 
-mul-lanes : tie.Need-mul-lanes Inv-loop μ-loop
-mul-lanes c = search needs
-
-array-read-lanes : tie.Need-array-read-lanes Inv-loop μ-loop
-array-read-lanes c = search needs
-
-mul-lanes-2 : tie.Need-mul-lanes-2 Inv-loop μ-loop
-mul-lanes-2 c = search needs
-
-add-lanes : tie.Need-add-lanes Inv-loop μ-loop
-add-lanes c = search needs
-
-mul-lanes-3 : tie.Need-mul-lanes-3 Inv-loop μ-loop
-mul-lanes-3 c = search needs
-
-element-write-lanes : tie.Need-element-write-lanes Inv-loop μ-loop
-element-write-lanes c = search needs
-
-add-l : tie.Need-add-l Inv-loop μ-loop
-add-l c = search needs
-
-loop-less : tie.Need-loop-less Inv-loop μ-loop
-loop-less c = search needs
-
 loop-again : tie.Need-loop-again Inv-loop μ-loop
 loop-again c =
     let l = c .before .loop in
@@ -74,13 +50,13 @@ store-row-spec =
     Inv-loop
     μ-loop
     loop-holds
-    mul-lanes
-    array-read-lanes
-    mul-lanes-2
-    add-lanes
-    mul-lanes-3
-    element-write-lanes
-    add-l
-    loop-less
+    (λ c. search needs)
+    (λ c. search needs)
+    (λ c. search needs)
+    (λ c. search needs)
+    (λ c. search needs)
+    (λ c. search needs)
+    (λ c. search needs)
+    (λ c. search needs)
     loop-again
     returns)

@@ -22,30 +22,12 @@ gate-row ws old new starts sources bits words j s kept tab units stored made spl
       other = stored .other;
     })
 
-split-lanes-requires : tie.Need-split-lanes-requires
-split-lanes-requires c κs = search needs
-
-table-requires : tie.Need-table-requires
-table-requires c κs = search needs
-
-flip-requires : tie.Need-flip-requires
-flip-requires c κs = search needs
-
 lane-words-requires : tie.Need-lane-words-requires
 lane-words-requires c κs =
     let s = c .before .before .before .before .before .before .before .before .before .before in
     let split = c .before .before .before .before .before .before .before .split-lanes .ensures in
     let fits = s .pre .0 .0 .figures .flip-fits (s .args .gate) (s .pre .0 .1) in
     ((split .0 .0, rw (c .before .flip .ensures) fits), record { readable = split .0 .1; fits = λ l less. split .1 l less .fits })
-
-inputs-requires : tie.Need-inputs-requires
-inputs-requires c κs = search needs
-
-add-store-row : tie.Need-add-store-row
-add-store-row c = search needs
-
-store-row-requires : tie.Need-store-row-requires
-store-row-requires c κs = search needs
 
 returns : tie.Need-returns
 returns c =
@@ -65,11 +47,11 @@ pub work-row-spec : {M : Type 1} → statement M
 work-row-spec =
     tie.close
     (tie.spec
-    split-lanes-requires
-    table-requires
-    flip-requires
+    (λ c κs. search needs)
+    (λ c κs. search needs)
+    (λ c κs. search needs)
     lane-words-requires
-    inputs-requires
-    add-store-row
-    store-row-requires
+    (λ c κs. search needs)
+    (λ c. search needs)
+    (λ c κs. search needs)
     returns)

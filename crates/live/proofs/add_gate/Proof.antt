@@ -10,24 +10,6 @@ use borrow.Author.Needs.{needs}
 use Rattle.live.proofs.add_gate.Statement.{statement}
 use Rattle.live.proofs.add_gate.Tie as tie
 
-inputs-requires : tie.Need-inputs-requires
-inputs-requires c κs = search needs
-
-add-source : tie.Need-add-source
-add-source c = search needs
-
-mul-if1 : tie.Need-mul-if1
-mul-if1 c = search needs
-
-element-copy-out-if1 : tie.Need-element-copy-out-if1
-element-copy-out-if1 c = search needs
-
-pins-index-requires : tie.Need-pins-index-requires
-pins-index-requires c κs = search needs
-
-pin-count-requires : tie.Need-pin-count-requires
-pin-count-requires c κs = search needs
-
 add-reads-requires : tie.Need-add-reads-requires
 add-reads-requires c κs =
     let a = c .before .before .before .before .before .before .before .args in
@@ -65,12 +47,12 @@ pub add-gate-spec : {M : Type 1} → statement M
 add-gate-spec =
     tie.close
     (tie.spec
-    inputs-requires
-    add-source
-    mul-if1
-    element-copy-out-if1
-    pins-index-requires
-    pin-count-requires
+    (λ c κs. search needs)
+    (λ c. search needs)
+    (λ c. search needs)
+    (λ c. search needs)
+    (λ c κs. search needs)
+    (λ c κs. search needs)
     add-reads-requires
     returns
     returns-2)

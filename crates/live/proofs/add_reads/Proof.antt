@@ -23,18 +23,6 @@ abbrev μ-loop : tie.MeasureT-loop
 loop-holds : tie.Need-loop-holds Inv-loop μ-loop
 loop-holds c = (omega arith, c .before .pre .1 .1 .0 .long, λ s. sym (add-zero (getD (c .before .args .readers .now) s 0)))
 
-add-index : tie.Need-add-index Inv-loop μ-loop
-add-index c = search needs
-
-mul-index : tie.Need-mul-index Inv-loop μ-loop
-mul-index c = search needs
-
-shared-slice-read-index : tie.Need-shared-slice-read-index Inv-loop μ-loop
-shared-slice-read-index c = search needs
-
-index-requires : tie.Need-index-requires Inv-loop μ-loop
-index-requires c κs = search needs
-
 mul-readers : tie.Need-mul-readers Inv-loop μ-loop
 mul-readers c = omega (arith, c .before .before .before .before .before .pre .1 .0 (c .before .before .before .loop .i) (omega arith))
 
@@ -59,12 +47,6 @@ add-readers c =
 
 element-write-readers : tie.Need-element-write-readers Inv-loop μ-loop
 element-write-readers c = omega (arith, c .before .before .before .before .before .before .pre .1 .0 (c .before .before .before .before .loop .i) (omega arith))
-
-add-i : tie.Need-add-i Inv-loop μ-loop
-add-i c = search needs
-
-loop-less : tie.Need-loop-less Inv-loop μ-loop
-loop-less c = search needs
 
 loop-again : tie.Need-loop-again Inv-loop μ-loop
 loop-again c =
@@ -101,15 +83,15 @@ add-reads-spec =
     Inv-loop
     μ-loop
     loop-holds
-    add-index
-    mul-index
-    shared-slice-read-index
-    index-requires
+    (λ c. search needs)
+    (λ c. search needs)
+    (λ c. search needs)
+    (λ c κs. search needs)
     mul-readers
     element-copy-out-readers
     add-readers
     element-write-readers
-    add-i
-    loop-less
+    (λ c. search needs)
+    (λ c. search needs)
     loop-again
     returns)

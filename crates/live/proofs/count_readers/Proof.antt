@@ -19,15 +19,6 @@ abbrev μ-loop : tie.MeasureT-loop
 μ-loop area gate₀ readers₀ gate readers =
     gate
 
-gates-requires : tie.Need-gates-requires Inv-loop μ-loop
-gates-requires c κs = search needs
-
-outputs-index-requires : tie.Need-outputs-index-requires Inv-loop μ-loop
-outputs-index-requires c κs = search needs
-
-outputs-requires : tie.Need-outputs-requires Inv-loop μ-loop
-outputs-requires c κs = search needs
-
 add-reads-requires : tie.Need-add-reads-requires Inv-loop μ-loop
 add-reads-requires c κs =
     let ws = c .before .before .before .before .before .args .area .now in
@@ -47,18 +38,12 @@ loop-holds c =
     let added = rw (c .before .before .outputs-index .ensures, at-gates, c .before .outputs .ensures) at (c .add-reads .ensures) in
     rw at-gates (le-refl (gates ws), added .long, first-reads ws (c .add-reads .last .0) added)
 
-sub-gate : tie.Need-sub-gate Inv-loop μ-loop
-sub-gate c = search needs
-
 add-gate-requires : tie.Need-add-gate-requires Inv-loop μ-loop
 add-gate-requires c κs =
     let l = c .before .before .loop in
     let sound = c .before .before .before .before .before .before .before .before .before .pre in
     let ws = c .before .before .before .before .before .before .before .before .before .args .area .now in
     ((sound, omega arith), few-reads ws (l .readers) (l .gate) (sound .gates-fit) (sound .outputs-fit) (l .inv .1) (l .inv .2))
-
-loop-less : tie.Need-loop-less Inv-loop μ-loop
-loop-less c = search needs
 
 loop-again : tie.Need-loop-again Inv-loop μ-loop
 loop-again c =
@@ -90,13 +75,13 @@ count-readers-spec =
     (tie.spec
     Inv-loop
     μ-loop
-    gates-requires
-    outputs-index-requires
-    outputs-requires
+    (λ c κs. search needs)
+    (λ c κs. search needs)
+    (λ c κs. search needs)
     add-reads-requires
     loop-holds
-    sub-gate
+    (λ c. search needs)
     add-gate-requires
-    loop-less
+    (λ c. search needs)
     loop-again
     returns)

@@ -14,9 +14,6 @@ first c = mul-le-mul {n₂ = unitsInOne} {m₂ = unitsInOne} (c .pre .0) (omega 
 second : (c : tie.Start) → c .args .wrong * c .args .failure ≤ unitsInOne * unitsInOne
 second c = mul-le-mul {n₂ = unitsInOne} {m₂ = unitsInOne} (c .pre .1 .0) (c .pre .1 .1)
 
-sub-rounded : tie.Need-sub-rounded
-sub-rounded c = search needs
-
 mul-rounded : tie.Need-mul-rounded
 mul-rounded c = omega (arith, first c)
 
@@ -34,4 +31,4 @@ unfolding blend
 returns c = c .rounded .ensures
 
 pub blended-spec : {M : Type 1} → statement M
-blended-spec = tie.close (tie.spec sub-rounded mul-rounded mul-rounded-2 add-rounded rounded-requires returns)
+blended-spec = tie.close (tie.spec (λ c. search needs) mul-rounded mul-rounded-2 add-rounded rounded-requires returns)

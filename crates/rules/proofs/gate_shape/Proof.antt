@@ -11,15 +11,9 @@ returns : tie.Need-returns
 unfolding gateShape
 returns c = sym (failed _ (lt-leb _ _ (c .if1 .taken)))
 
-table-fits-requires : tie.Need-table-fits-requires
-table-fits-requires c κs = search needs
-
 returns-2 : tie.Need-returns-2
 unfolding gateShape
 returns-2 c = sym (passed _ (le-leb _ _ (c .before .before .if1 .left)) ∙ failed _ (no (c .before .table-fits .ensures) (c .if2 .taken)))
-
-unused-zero-requires : tie.Need-unused-zero-requires
-unused-zero-requires c κs = search needs
 
 returns-3 : tie.Need-returns-3
 unfolding gateShape
@@ -29,4 +23,4 @@ returns-3 c =
 
 pub gate-shape-spec : {M : Type 1} → statement M
 gate-shape-spec =
-    tie.close (tie.spec returns table-fits-requires returns-2 unused-zero-requires returns-3)
+    tie.close (tie.spec returns (λ c κs. search needs) returns-2 (λ c κs. search needs) returns-3)

@@ -39,27 +39,9 @@ shape-passed c = yes (shaped (c .before)) (c .if1 .left)
 used-passed : (c : tie.Else2) → Used (c .before .before .before .before .before .before .before .before .before) ≡ true
 used-passed c = yes (used (c .before)) (c .if2 .left)
 
-pin-count-requires : tie.Need-pin-count-requires
-pin-count-requires c κs = search needs
-
-pins-requires : tie.Need-pins-requires
-pins-requires c κs = search needs
-
-table-requires : tie.Need-table-requires
-table-requires c κs = search needs
-
-gate-shape-requires : tie.Need-gate-shape-requires
-gate-shape-requires c κs = search needs
-
 returns : tie.Need-returns
 unfolding gateSound
 returns c = sym (failed _ (no (shaped (c .before)) (c .if1 .taken)))
-
-inputs-requires : tie.Need-inputs-requires
-inputs-requires c κs = search needs
-
-add-used-below : tie.Need-add-used-below
-add-used-below c = search needs
 
 used-below-requires : tie.Need-used-below-requires
 used-below-requires c κs =
@@ -70,17 +52,11 @@ returns-2 : tie.Need-returns-2
 unfolding gateSound
 returns-2 c = sym (passed _ (shape-passed (c .before .before .before)) ∙ failed _ (no (used (c .before)) (c .if2 .taken)))
 
-flip-requires : tie.Need-flip-requires
-flip-requires c κs = search needs
-
 returns-3 : tie.Need-returns-3
 unfolding gateSound
 returns-3 c =
     let rest = failed _ (lt-leb _ _ (rw (c .before .flip .ensures) at (c .if3 .taken))) in
     sym (passed _ (shape-passed (c .before .before .before .before .before)) ∙ passed _ (used-passed (c .before .before)) ∙ rest)
-
-figure-requires : tie.Need-figure-requires
-figure-requires c κs = search needs
 
 returns-4 : tie.Need-returns-4
 unfolding gateSound
@@ -93,16 +69,16 @@ pub gate-sound-spec : {M : Type 1} → statement M
 gate-sound-spec =
     tie.close
     (tie.spec
-    pin-count-requires
-    pins-requires
-    table-requires
-    gate-shape-requires
+    (λ c κs. search needs)
+    (λ c κs. search needs)
+    (λ c κs. search needs)
+    (λ c κs. search needs)
     returns
-    inputs-requires
-    add-used-below
+    (λ c κs. search needs)
+    (λ c. search needs)
     used-below-requires
     returns-2
-    flip-requires
+    (λ c κs. search needs)
     returns-3
-    figure-requires
+    (λ c κs. search needs)
     returns-4)

@@ -19,9 +19,6 @@ abbrev μ-loop : tie.MeasureT-loop
 μ-loop area gates j₀ j =
     gates - j
 
-gates-requires : tie.Need-gates-requires Inv-loop μ-loop
-gates-requires c κs = search needs
-
 loop-holds : tie.Need-loop-holds Inv-loop μ-loop
 unfolding gatesSound
 loop-holds c =
@@ -29,20 +26,11 @@ loop-holds c =
     let all : layout.gates ws ≡ c .gates .result - 0 = omega arith in
     (omega arith, c .gates .ensures, ap (everyFrom (gateSound ws) 0) all)
 
-gate-sound-requires : tie.Need-gate-sound-requires Inv-loop μ-loop
-gate-sound-requires c κs = search needs
-
 returns : tie.Need-returns Inv-loop μ-loop
 returns c =
     let l = c .before .before .before .loop in
     let g = c .before .before .before .before in
     sym (l .inv .2 ∙ fails (gateSound _) (l .j) (g .gates .result) (omega arith) (no (c .before .gate-sound .ensures) (c .if1 .taken)))
-
-add-j : tie.Need-add-j Inv-loop μ-loop
-add-j c = search needs
-
-loop-less : tie.Need-loop-less Inv-loop μ-loop
-loop-less c = search needs
 
 loop-again : tie.Need-loop-again Inv-loop μ-loop
 loop-again c =
@@ -62,11 +50,11 @@ gates-sound-spec =
     (tie.spec
     Inv-loop
     μ-loop
-    gates-requires
+    (λ c κs. search needs)
     loop-holds
-    gate-sound-requires
+    (λ c κs. search needs)
     returns
-    add-j
-    loop-less
+    (λ c. search needs)
+    (λ c. search needs)
     loop-again
     returns-2)

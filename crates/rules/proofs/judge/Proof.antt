@@ -50,18 +50,6 @@ returns : tie.Need-returns
 unfolding areaJudgement
 returns c = sym (refused 13 0 _ (lt-leb _ _ (c .if1 .taken)))
 
-gates-requires : tie.Need-gates-requires
-gates-requires c κs = search needs
-
-outputs-requires : tie.Need-outputs-requires
-outputs-requires c κs = search needs
-
-inputs-requires : tie.Need-inputs-requires
-inputs-requires c κs = search needs
-
-counts-in-range-requires : tie.Need-counts-in-range-requires
-counts-in-range-requires c κs = search needs
-
 returns-2 : tie.Need-returns-2
 unfolding areaJudgement
 returns-2 c = sym (next 13 0 _ (le-leb _ _ (c .before .before .before .before .before .if1 .left)) ∙ refused 14 0 _ (no (counted (c .before)) (c .if2 .taken)))
@@ -93,10 +81,10 @@ judge-spec =
     tie.close
     (tie.spec
     returns
-    gates-requires
-    outputs-requires
-    inputs-requires
-    counts-in-range-requires
+    (λ c κs. search needs)
+    (λ c κs. search needs)
+    (λ c κs. search needs)
+    (λ c κs. search needs)
     returns-2
     needed-requires
     returns-3

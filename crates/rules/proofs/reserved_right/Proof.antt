@@ -7,22 +7,13 @@ use borrow.Author.Needs.{needs}
 use Rattle.rules.proofs.reserved_right.Statement.{statement}
 use Rattle.rules.proofs.reserved_right.Tie as tie
 
-shared-slice-read-if1 : tie.Need-shared-slice-read-if1
-shared-slice-read-if1 c = search needs
-
 returns : tie.Need-returns
 unfolding reservedRight
 returns c = sym (failed _ (ne-eqb _ _ (c .if1 .taken)))
 
-shared-slice-read-if2 : tie.Need-shared-slice-read-if2
-shared-slice-read-if2 c = search needs
-
 returns-2 : tie.Need-returns-2
 unfolding reservedRight
 returns-2 c = sym (passed _ (eq-eqb _ _ (c .before .before .if1 .left)) ∙ failed _ (ne-eqb _ _ (c .if2 .taken)))
-
-shared-slice-read-result : tie.Need-shared-slice-read-result
-shared-slice-read-result c = search needs
 
 returns-3 : tie.Need-returns-3
 unfolding reservedRight
@@ -32,9 +23,9 @@ pub reserved-right-spec : {M : Type 1} → statement M
 reserved-right-spec =
     tie.close
     (tie.spec
-    shared-slice-read-if1
+    (λ c. search needs)
     returns
-    shared-slice-read-if2
+    (λ c. search needs)
     returns-2
-    shared-slice-read-result
+    (λ c. search needs)
     returns-3)

@@ -44,40 +44,19 @@ shift c =
 pattern-passed : (c : tie.Else3) → Pattern (words (c .before .before .before .before .before .before .before .before)) ≡ true
 pattern-passed c = lt-ltb _ _ (rw (shift (c .before)) at (c .if3 .left))
 
-gates-sound-requires : tie.Need-gates-sound-requires
-gates-sound-requires c κs = search needs
-
 returns : tie.Need-returns
 unfolding restSound
 returns c = sym (failed _ (no (c .before .gates-sound .ensures) (c .if1 .taken)))
 
-outputs-below-requires : tie.Need-outputs-below-requires
-outputs-below-requires c κs = search needs
-
 returns-2 : tie.Need-returns-2
 unfolding restSound
 returns-2 c = sym (passed _ (gates-passed (c .before .before)) ∙ failed _ (no (c .before .outputs-below .ensures) (c .if2 .taken)))
-
-shared-slice-read-if3 : tie.Need-shared-slice-read-if3
-shared-slice-read-if3 c = search needs
-
-inputs-requires : tie.Need-inputs-requires
-inputs-requires c κs = search needs
-
-cast-if3 : tie.Need-cast-if3
-cast-if3 c = search needs
-
-shl-if3 : tie.Need-shl-if3
-shl-if3 c = search needs
 
 returns-3 : tie.Need-returns-3
 unfolding restSound
 returns-3 c =
     let above = le-ltb _ _ (rw (shift (c .before)) at (c .if3 .taken)) in
     sym (past-outputs (c .before .before .before) _ ∙ failed _ above)
-
-shared-slice-read-if4 : tie.Need-shared-slice-read-if4
-shared-slice-read-if4 c = search needs
 
 cast-if4 : tie.Need-cast-if4
 cast-if4 c = omega (arith, c .shared-slice-known3 .given reliabilityIndex)
@@ -87,9 +66,6 @@ unfolding restSound
 returns-4 c =
     let first = past-outputs (c .before .before .before .before .before) _ in
     sym (first ∙ passed _ (pattern-passed (c .before .before)) ∙ failed _ (lt-leb _ _ (c .if4 .taken)))
-
-reserved-right-requires : tie.Need-reserved-right-requires
-reserved-right-requires c κs = search needs
 
 returns-5 : tie.Need-returns-5
 unfolding restSound
@@ -101,17 +77,17 @@ pub rest-sound-spec : {M : Type 1} → statement M
 rest-sound-spec =
     tie.close
     (tie.spec
-    gates-sound-requires
+    (λ c κs. search needs)
     returns
-    outputs-below-requires
+    (λ c κs. search needs)
     returns-2
-    shared-slice-read-if3
-    inputs-requires
-    cast-if3
-    shl-if3
+    (λ c. search needs)
+    (λ c κs. search needs)
+    (λ c. search needs)
+    (λ c. search needs)
     returns-3
-    shared-slice-read-if4
+    (λ c. search needs)
     cast-if4
     returns-4
-    reserved-right-requires
+    (λ c κs. search needs)
     returns-5)

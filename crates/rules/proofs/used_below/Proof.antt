@@ -9,12 +9,6 @@ use borrow.Author.Needs.{needs}
 use Rattle.rules.proofs.used_below.Statement.{statement}
 use Rattle.rules.proofs.used_below.Tie as tie
 
-slice-aggregate-all-below : tie.Need-slice-aggregate-all-below
-slice-aggregate-all-below c = search needs
-
-all-below-requires : tie.Need-all-below-requires
-all-below-requires c κs = search needs
-
 returns : tie.Need-returns
 unfolding usedBelow
 returns c =
@@ -23,4 +17,4 @@ returns c =
     c .all-below .ensures ∙ ap (λ (n : ℕ). allBelow (a .limit) (take n (a .t3))) z
 
 pub used-below-spec : {M : Type 1} → statement M
-used-below-spec = tie.close (tie.spec slice-aggregate-all-below all-below-requires returns)
+used-below-spec = tie.close (tie.spec (λ c. search needs) (λ c κs. search needs) returns)

@@ -16,20 +16,8 @@ abbrev μ-loop : tie.MeasureT-loop
 loop-holds : tie.Need-loop-holds Inv-loop μ-loop
 loop-holds c = (omega arith, refl)
 
-cast-toggle-input : tie.Need-cast-toggle-input Inv-loop μ-loop
-cast-toggle-input c = search needs
-
-toggle-input-requires : tie.Need-toggle-input-requires Inv-loop μ-loop
-toggle-input-requires c κs = search needs
-
 same-length : tie.Need-same-length Inv-loop μ-loop
 same-length c = c .before .before .before .toggle-input .kept .0 ∙ c .before .before .before .before .before .before .loop .inv .1
-
-returns : tie.Need-returns Inv-loop μ-loop
-returns c = search needs
-
-add-input : tie.Need-add-input Inv-loop μ-loop
-add-input c = search needs
 
 loop-less : tie.Need-loop-less Inv-loop μ-loop
 loop-less c = omega arith
@@ -40,9 +28,6 @@ loop-again c = (omega arith, c .before .before .before .toggle-input .kept .0 �
 same-length-2 : tie.Need-same-length-2 Inv-loop μ-loop
 same-length-2 c = c .before .loop .inv .1
 
-returns-2 : tie.Need-returns-2 Inv-loop μ-loop
-returns-2 c = search needs
-
 pub next-pattern-spec : {M : Type 1} → statement M
 next-pattern-spec =
     tie.close
@@ -50,12 +35,12 @@ next-pattern-spec =
     Inv-loop
     μ-loop
     loop-holds
-    cast-toggle-input
-    toggle-input-requires
+    (λ c. search needs)
+    (λ c κs. search needs)
     same-length
-    returns
-    add-input
+    (λ c. search needs)
+    (λ c. search needs)
     loop-less
     loop-again
     same-length-2
-    returns-2)
+    (λ c. search needs))

@@ -13,17 +13,8 @@ Inv-loop area₀ inputs count q₀ area q = (q ≤ count) × (length area ≡ le
 abbrev μ-loop : tie.MeasureT-loop
 μ-loop area₀ inputs count q₀ area q = count - q
 
-pattern-count-requires : tie.Need-pattern-count-requires Inv-loop μ-loop
-pattern-count-requires c κs = search needs
-
 loop-holds : tie.Need-loop-holds Inv-loop μ-loop
 loop-holds c = (omega arith, refl)
-
-print-reliability-requires : tie.Need-print-reliability-requires Inv-loop μ-loop
-print-reliability-requires c κs = search needs
-
-next-pattern-requires : tie.Need-next-pattern-requires Inv-loop μ-loop
-next-pattern-requires c κs = search needs
 
 add-q : tie.Need-add-q Inv-loop μ-loop
 add-q c = omega (arith, c .before .before .before .before .before .before .before .before .pattern-count .ensures)
@@ -37,21 +28,18 @@ loop-again c = (omega arith, c .before .before .next-pattern .kept .0 ∙ c .bef
 same-length : tie.Need-same-length Inv-loop μ-loop
 same-length c = c .before .loop .inv .1
 
-returns : tie.Need-returns Inv-loop μ-loop
-returns c = search needs
-
 pub print-patterns-spec : {M : Type 1} → statement M
 print-patterns-spec =
     tie.close
     (tie.spec
     Inv-loop
     μ-loop
-    pattern-count-requires
+    (λ c κs. search needs)
     loop-holds
-    print-reliability-requires
-    next-pattern-requires
+    (λ c κs. search needs)
+    (λ c κs. search needs)
     add-q
     loop-less
     loop-again
     same-length
-    returns)
+    (λ c. search needs))

@@ -10,15 +10,6 @@ use borrow.Author.Needs.{needs}
 use Rattle.work.proofs.gate_figure.Statement.{statement}
 use Rattle.work.proofs.gate_figure.Tie as tie
 
-split-pins-requires : tie.Need-split-pins-requires
-split-pins-requires c κs = search needs
-
-table-requires : tie.Need-table-requires
-table-requires c κs = search needs
-
-flip-requires : tie.Need-flip-requires
-flip-requires c κs = search needs
-
 pins-word-requires : tie.Need-pins-word-requires
 pins-word-requires c κs =
     let s = c .before .before .before .before .before .before in
@@ -40,4 +31,4 @@ returns c =
 
 pub gate-figure-spec : {M : Type 1} → statement M
 gate-figure-spec =
-    tie.close (tie.spec split-pins-requires table-requires flip-requires pins-word-requires returns)
+    tie.close (tie.spec (λ c κs. search needs) (λ c κs. search needs) (λ c κs. search needs) pins-word-requires returns)

@@ -8,18 +8,6 @@ use borrow.Author.Needs.{needs}
 use Rattle.work.proofs.inverted_bit.Statement.{statement}
 use Rattle.work.proofs.inverted_bit.Tie as tie
 
-cast-bit : tie.Need-cast-bit
-cast-bit c = search needs
-
-shl-bit : tie.Need-shl-bit
-shl-bit c = search needs
-
-cast-if1 : tie.Need-cast-if1
-cast-if1 c = search needs
-
-shr-if1 : tie.Need-shr-if1
-shr-if1 c = search needs
-
 sub-result : tie.Need-sub-result
 sub-result c = rw (bit-is (c .before .args .input) (c .before .pre .0)) (bit-below (c .before .args .pattern) (c .before .args .input) (c .if1 .taken))
 
@@ -38,4 +26,4 @@ returns-2 c = rw (ne-eqb _ _ (c .if1 .left), bit-is (c .before .args .input) (c 
 
 pub inverted-bit-spec : {M : Type 1} → statement M
 inverted-bit-spec =
-    tie.close (tie.spec cast-bit shl-bit cast-if1 shr-if1 sub-result add-result returns returns-2)
+    tie.close (tie.spec (λ c. search needs) (λ c. search needs) (λ c. search needs) (λ c. search needs) sub-result add-result returns returns-2)

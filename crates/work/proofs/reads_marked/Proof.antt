@@ -64,12 +64,6 @@ returns c =
     let t = c .before .before .before in
     sym (marked-here (s t .args .marks .now) _ (i t) (inside t) (rw (here (c .before .before)) at (c .if1 .taken))) ∙ t .before .loop .inv .1
 
-add-i : tie.Need-add-i Inv-loop μ-loop
-add-i c = search needs
-
-loop-less : tie.Need-loop-less Inv-loop μ-loop
-loop-less c = search needs
-
 loop-again : tie.Need-loop-again Inv-loop μ-loop
 loop-again c =
     let t = c .before .before .before in
@@ -87,4 +81,4 @@ returns-2 c =
 pub reads-marked-spec : {M : Type 1} → statement M
 reads-marked-spec =
     tie.close
-    (tie.spec Inv-loop μ-loop pin-count-requires loop-holds pin-requires element-copy-out-if1 returns add-i loop-less loop-again returns-2)
+    (tie.spec Inv-loop μ-loop pin-count-requires loop-holds pin-requires element-copy-out-if1 returns (λ c. search needs) (λ c. search needs) loop-again returns-2)

@@ -25,15 +25,6 @@ Inv-loop area start count reliability₀ k₀ reliability k =
 abbrev μ-loop : tie.MeasureT-loop
 μ-loop area start count reliability₀ k₀ reliability k = count - k
 
-gates-requires : tie.Need-gates-requires Inv-loop μ-loop
-gates-requires c κs = search needs
-
-outputs-index-requires : tie.Need-outputs-index-requires Inv-loop μ-loop
-outputs-index-requires c κs = search needs
-
-outputs-requires : tie.Need-outputs-requires Inv-loop μ-loop
-outputs-requires c κs = search needs
-
 loop-holds : tie.Need-loop-holds Inv-loop μ-loop
 loop-holds c = (omega arith, omega arith, refl)
 
@@ -66,9 +57,6 @@ mul-index c = omega (arith, first c, used c, s c .pre .net .gates-fit, s c .pre 
 shared-slice-read-index : tie.Need-shared-slice-read-index Inv-loop μ-loop
 shared-slice-read-index c = omega (arith, first (c .before), used (c .before), s (c .before) .pre .net .long)
 
-index-requires : tie.Need-index-requires Inv-loop μ-loop
-index-requires c κs = search needs
-
 -- the source that it reads, and that source's word
 here : (c : tie.After-index Inv-loop μ-loop) → c .index .result ≡ getD (outputWords (ws (c .before .before))) (k (c .before .before)) 0
 here c =
@@ -88,17 +76,8 @@ fits c =
 source-word-requires : tie.Need-source-word-requires Inv-loop μ-loop
 source-word-requires c κs = (s (c .before .before) .pre, read c)
 
-cast-output-step : tie.Need-cast-output-step Inv-loop μ-loop
-cast-output-step c = search needs
-
 output-step-requires : tie.Need-output-step-requires Inv-loop μ-loop
 output-step-requires c κs = (c .before .before .before .before .loop .inv .1, fits c)
-
-add-k : tie.Need-add-k Inv-loop μ-loop
-add-k c = search needs
-
-loop-less : tie.Need-loop-less Inv-loop μ-loop
-loop-less c = search needs
 
 loop-again : tie.Need-loop-again Inv-loop μ-loop
 loop-again c =
@@ -132,19 +111,19 @@ reliability-now-spec =
     (tie.spec
     Inv-loop
     μ-loop
-    gates-requires
-    outputs-index-requires
-    outputs-requires
+    (λ c κs. search needs)
+    (λ c κs. search needs)
+    (λ c κs. search needs)
     loop-holds
     add-index
     mul-index
     shared-slice-read-index
-    index-requires
+    (λ c κs. search needs)
     source-word-requires
-    cast-output-step
+    (λ c. search needs)
     output-step-requires
-    add-k
-    loop-less
+    (λ c. search needs)
+    (λ c. search needs)
     loop-again
     cast-result
     returns)

@@ -74,23 +74,8 @@ left c =
     (work .work-gate .ensures ∙ ap (λ (ws : List ℕ). workGate ws (s .args .gate)) (store work .store-flip .ensures))
     (marked .work-marked .ensures)
 
-inputs-requires : tie.Need-inputs-requires
-inputs-requires c κs = search needs
-
-add-source : tie.Need-add-source
-add-source c = search needs
-
-store-flip-requires : tie.Need-store-flip-requires
-store-flip-requires c κs = search needs
-
 work-gate-requires : tie.Need-work-gate-requires
 work-gate-requires c κs = (flipped-workable (c .before .before .before), flipped-below (c .before .before .before))
-
-mark-of-requires : tie.Need-mark-of-requires
-mark-of-requires c κs = search needs
-
-add-work-marked : tie.Need-add-work-marked
-add-work-marked c = search needs
 
 work-marked-requires : tie.Need-work-marked-requires
 work-marked-requires c κs =
@@ -116,12 +101,12 @@ pub set-units-spec : {M : Type 1} → statement M
 set-units-spec =
     tie.close
     (tie.spec
-    inputs-requires
-    add-source
-    store-flip-requires
+    (λ c κs. search needs)
+    (λ c. search needs)
+    (λ c κs. search needs)
     work-gate-requires
-    mark-of-requires
-    add-work-marked
+    (λ c κs. search needs)
+    (λ c. search needs)
     work-marked-requires
     work-reliability-requires
     same-length

@@ -8,21 +8,6 @@ use borrow.Author.Needs.{needs}
 use Rattle.work.proofs.source_word.Statement.{statement}
 use Rattle.work.proofs.source_word.Tie as tie
 
-inputs-requires : tie.Need-inputs-requires
-inputs-requires c κs = search needs
-
-shared-slice-read-result : tie.Need-shared-slice-read-result
-shared-slice-read-result c = search needs
-
-cast-result : tie.Need-cast-result
-cast-result c = search needs
-
-shr-result : tie.Need-shr-result
-shr-result c = search needs
-
-figure-requires : tie.Need-figure-requires
-figure-requires c κs = search needs
-
 returns : tie.Need-returns
 returns c =
     let s = c .before .before .before .before in
@@ -38,4 +23,4 @@ returns-2 c =
 
 pub source-word-spec : {M : Type 1} → statement M
 source-word-spec =
-    tie.close (tie.spec inputs-requires shared-slice-read-result cast-result shr-result figure-requires returns returns-2)
+    tie.close (tie.spec (λ c κs. search needs) (λ c. search needs) (λ c. search needs) (λ c. search needs) (λ c κs. search needs) returns returns-2)

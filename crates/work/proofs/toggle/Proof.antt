@@ -44,19 +44,10 @@ left c =
     (marked .before .mark-of .ensures)
     (marked .work-marked .ensures)
 
-slice-read-inverted-bit : tie.Need-slice-read-inverted-bit
-slice-read-inverted-bit c = search needs
-
 inverted-bit-requires : tie.Need-inverted-bit-requires
 inverted-bit-requires c κs =
     let s = c .before .before in
     (omega (arith, s .pre .0 .net .inputs-fit, s .pre .1), pattern-small (s .args .area .now) (s .pre .0))
-
-slice-write-area : tie.Need-slice-write-area
-slice-write-area c = search needs
-
-mark-of-requires : tie.Need-mark-of-requires
-mark-of-requires c κs = search needs
 
 work-marked-requires : tie.Need-work-marked-requires
 work-marked-requires c κs = (stored-workable (c .before .before), omega arith)
@@ -78,10 +69,10 @@ pub toggle-spec : {M : Type 1} → statement M
 toggle-spec =
     tie.close
     (tie.spec
-    slice-read-inverted-bit
+    (λ c. search needs)
     inverted-bit-requires
-    slice-write-area
-    mark-of-requires
+    (λ c. search needs)
+    (λ c κs. search needs)
     work-marked-requires
     work-reliability-requires
     same-length

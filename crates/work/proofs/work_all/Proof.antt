@@ -9,16 +9,10 @@ use borrow.Author.Needs.{needs}
 use Rattle.work.proofs.work_all.Statement.{statement}
 use Rattle.work.proofs.work_all.Tie as tie
 
-work-gates-requires : tie.Need-work-gates-requires
-work-gates-requires c κs = search needs
-
 work-reliability-requires : tie.Need-work-reliability-requires
 work-reliability-requires c κs =
     let s = c .before .before .before .before .before .before in
     rw (c .before .before .before .work-gates .ensures) (workable-walk (gates-walk (s .args .area .now) 0 (gates (s .args .area .now))) (omega arith) (s .pre))
-
-same-length : tie.Need-same-length
-same-length c = search needs
 
 returns : tie.Need-returns
 unfolding workAll
@@ -26,4 +20,4 @@ returns c = c .before .before .work-reliability .ensures ∙ ap workReliability 
 
 pub work-all-spec : {M : Type 1} → statement M
 work-all-spec =
-    tie.close (tie.spec work-gates-requires work-reliability-requires same-length returns)
+    tie.close (tie.spec (λ c κs. search needs) work-reliability-requires (λ c. search needs) returns)

@@ -21,9 +21,6 @@ Inv-loop area₀ count gate₀ area gate =
 abbrev μ-loop : tie.MeasureT-loop
 μ-loop area₀ count gate₀ area gate = count - gate
 
-gates-requires : tie.Need-gates-requires Inv-loop μ-loop
-gates-requires c κs = search needs
-
 loop-holds : tie.Need-loop-holds Inv-loop μ-loop
 loop-holds c =
     let s = c .before .before .before in
@@ -35,12 +32,6 @@ work-gate-requires : tie.Need-work-gate-requires Inv-loop μ-loop
 work-gate-requires c κs =
     let l = c .before .before .loop in
     (l .inv .2, omega (arith, l .inv .1))
-
-add-gate : tie.Need-add-gate Inv-loop μ-loop
-add-gate c = search needs
-
-loop-less : tie.Need-loop-less Inv-loop μ-loop
-loop-less c = search needs
 
 loop-again : tie.Need-loop-again Inv-loop μ-loop
 loop-again c =
@@ -66,4 +57,4 @@ returns c =
 
 pub work-gates-spec : {M : Type 1} → statement M
 work-gates-spec =
-    tie.close (tie.spec Inv-loop μ-loop gates-requires loop-holds work-gate-requires add-gate loop-less loop-again same-length returns)
+    tie.close (tie.spec Inv-loop μ-loop (λ c κs. search needs) loop-holds work-gate-requires (λ c. search needs) (λ c. search needs) loop-again same-length returns)

@@ -23,12 +23,6 @@ Inv-loop area₀ from n count marks₀ gate₀ area marks gate =
 abbrev μ-loop : tie.MeasureT-loop
 μ-loop area₀ from n count marks₀ gate₀ area marks gate = count - gate
 
-inputs-requires : tie.Need-inputs-requires Inv-loop μ-loop
-inputs-requires c κs = search needs
-
-gates-requires : tie.Need-gates-requires Inv-loop μ-loop
-gates-requires c κs = search needs
-
 loop-holds : tie.Need-loop-holds Inv-loop μ-loop
 loop-holds c =
     let s = c .before .before .before .before .before in
@@ -46,21 +40,6 @@ reads-marked-requires : tie.Need-reads-marked-requires Inv-loop μ-loop
 reads-marked-requires c κs =
     let l = c .before .before .before .loop in
     (l .inv .3, omega (arith, l .inv .1))
-
-work-gate-requires : tie.Need-work-gate-requires Inv-loop μ-loop
-work-gate-requires c κs = search needs
-
-add-marks : tie.Need-add-marks Inv-loop μ-loop
-add-marks c = search needs
-
-array-write-marks : tie.Need-array-write-marks Inv-loop μ-loop
-array-write-marks c = search needs
-
-add-gate : tie.Need-add-gate Inv-loop μ-loop
-add-gate c = search needs
-
-loop-less : tie.Need-loop-less Inv-loop μ-loop
-loop-less c = search needs
 
 -- what a turn leaves: the gate worked out and marked where it reads a marked source
 module _ (c : tie.Joined1 Inv-loop μ-loop) where
@@ -101,9 +80,6 @@ loop-again c =
       marked-turn (a .area) (c .if1 .area) (a .marks) (c .if1 .marks) (a .gate) _ (t .marked) (omega arith) (t .reads) (t .words) (t .marks) (a .inv .6),
     )
 
-same-length : tie.Need-same-length Inv-loop μ-loop
-same-length c = search needs
-
 returns : tie.Need-returns Inv-loop μ-loop
 returns c =
     let l = c .before .loop in
@@ -116,15 +92,15 @@ work-marked-spec =
     (tie.spec
     Inv-loop
     μ-loop
-    inputs-requires
-    gates-requires
+    (λ c κs. search needs)
+    (λ c κs. search needs)
     loop-holds
     reads-marked-requires
-    work-gate-requires
-    add-marks
-    array-write-marks
-    add-gate
-    loop-less
+    (λ c κs. search needs)
+    (λ c. search needs)
+    (λ c. search needs)
+    (λ c. search needs)
+    (λ c. search needs)
     loop-again
-    same-length
+    (λ c. search needs)
     returns)

@@ -7,19 +7,10 @@ use borrow.Author.Needs.{needs}
 use Rattle.work.proofs.work_reliability.Statement.{statement}
 use Rattle.work.proofs.work_reliability.Tie as tie
 
-reliability-now-requires : tie.Need-reliability-now-requires
-reliability-now-requires c κs = search needs
-
-slice-write-area : tie.Need-slice-write-area
-slice-write-area c = search needs
-
-same-length : tie.Need-same-length
-same-length c = search needs
-
 returns : tie.Need-returns
 unfolding workReliability
 returns c = ap (set (c .before .before .before .args .area .now) reliabilityIndex) (c .reliability-now .ensures)
 
 pub work-reliability-spec : {M : Type 1} → statement M
 work-reliability-spec =
-    tie.close (tie.spec reliability-now-requires slice-write-area same-length returns)
+    tie.close (tie.spec (λ c κs. search needs) (λ c. search needs) (λ c. search needs) returns)
