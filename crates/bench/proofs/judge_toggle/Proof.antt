@@ -10,20 +10,25 @@ use Rattle.bench.proofs.judge_toggle.Tie as tie
 
 inputs-requires : tie.Need-inputs-requires
 inputs-requires c κs =
-    let s = sound (c .before .before .before .before .args .area .now) (sym (c .before .before .judge .ensures) ∙ c .enum-told .given .1) in
-    omega (arith, s .workable .net .long)
+    let s = c .before .before .before .before in
+    let passed = sound (s .args .area .now) (sym (c .before .before .judge .ensures) ∙ c .enum-told .given .1) in
+    omega (arith, passed .workable .net .long)
 
 returns : tie.Need-returns
 unfolding argumentJudgement
 returns c =
-    let a = c .before .before .before .before .before .before .args in
-    let s = sound (a .area .now) (sym (c .before .before .before .before .judge .ensures) ∙ c .before .before .enum-told .given .1) in
-    c .judge-named .ensures ∙ ap (named (a .input)) (c .before .inputs .ensures) ∙ sym (lent-sound (a .area .now) (toggle-input (a .input)) s)
+    let s = c .before .before .before .before .before .before in
+    let at-judge = c .before .before .before .before .judge in
+    let a = s .args in
+    let passed = sound (a .area .now) (sym (at-judge .ensures) ∙ c .before .before .enum-told .given .1) in
+    c .judge-named .ensures ∙ ap (named (a .input)) (c .before .inputs .ensures) ∙ sym (lent-sound (a .area .now) (toggle-input (a .input)) passed)
 
 returns-2 : tie.Need-returns-2
 returns-2 c =
-    let a = c .before .before .before .before .before .args in
-    sym (lent-stopped (a .area .now) (toggle-input (a .input)) _ _ (sym (c .before .before .before .judge .ensures) ∙ c .before .number .given .1))
+    let s = c .before .before .before .before .before in
+    let at-judge = c .before .before .before .judge in
+    let a = s .args in
+    sym (lent-stopped (a .area .now) (toggle-input (a .input)) _ _ (sym (at-judge .ensures) ∙ c .before .number .given .1))
 
 pub judge-toggle-spec : {M : Type 1} → statement M
 judge-toggle-spec =

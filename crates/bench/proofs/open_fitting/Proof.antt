@@ -14,29 +14,42 @@ use Rattle.bench.proofs.open_fitting.Tie as tie
 
 returns : tie.Need-returns
 returns c =
-    let a = c .before .before .before .before .before .before .args in
+    let s = c .before .before .before .before .before .before in
+    let at-gates = c .before .before .before .gates in
+    let at-needed = c .before .needed in
+    let a = s .args in
     let ws = a .words .now in
-    let count : c .before .needed .result ≡ needed (gates ws) (outputs ws) = c .before .needed .ensures ∙ ap₂ needed (c .before .before .before .gates .ensures) (c .before .before .outputs .ensures) in
+    let count : at-needed .result ≡ needed (gates ws) (outputs ws) = at-needed .ensures ∙ ap₂ needed (at-gates .ensures) (c .before .before .outputs .ensures) in
     let short : length (a .area .now) < needed (gates ws) (outputs ws) = omega arith in
     let e = short-room (gates ws) (outputs ws) (length (a .area .now)) short in
     (rw e refl, rw e refl)
 
 work-all-requires : tie.Need-work-all-requires
 work-all-requires c κs =
-    let a = c .before .before .before .before .before .before .before .before .before .before .before .args in
+    let s = c .before .before .before .before .before .before .before .before .before .before .before in
+    let at-gates = c .before .before .before .before .before .before .before .before .gates in
+    let at-outputs = c .before .before .before .before .before .before .before .outputs in
+    let at-needed = c .before .before .before .before .before .before .needed in
+    let at-copy-words = c .before .before .before .copy-words in
+    let a = s .args in
     let ws = a .words .now in
-    let count : c .before .before .before .before .before .before .needed .result ≡ needed (gates ws) (outputs ws) = c .before .before .before .before .before .before .needed .ensures ∙ ap₂ needed (c .before .before .before .before .before .before .before .before .gates .ensures) (c .before .before .before .before .before .before .before .outputs .ensures) in
-    rw (c .before .before .before .copy-words .ensures, count) (c .before .before .before .before .before .before .before .before .before .before .before .pre .1 (drop (needed (gates ws) (outputs ws)) (a .area .now)))
+    let count : at-needed .result ≡ needed (gates ws) (outputs ws) = at-needed .ensures ∙ ap₂ needed (at-gates .ensures) (at-outputs .ensures) in
+    rw (at-copy-words .ensures, count) (s .pre .1 (drop (needed (gates ws) (outputs ws)) (a .area .now)))
 
 returns-2 : tie.Need-returns-2
 unfolding loadedWords
 returns-2 c =
-    let a = c .before .before .before .before .before .before .before .before .before .before .before .before .before .before .args in
+    let s = c .before .before .before .before .before .before .before .before .before .before .before .before .before .before in
+    let at-gates = c .before .before .before .before .before .before .before .before .before .before .before .gates in
+    let at-outputs = c .before .before .before .before .before .before .before .before .before .before .outputs in
+    let at-needed = c .before .before .before .before .before .before .before .before .before .needed in
+    let at-copy-words = c .before .before .before .before .before .before .copy-words in
+    let a = s .args in
     let ws = a .words .now in
-    let count : c .before .before .before .before .before .before .before .before .before .needed .result ≡ needed (gates ws) (outputs ws) = c .before .before .before .before .before .before .before .before .before .needed .ensures ∙ ap₂ needed (c .before .before .before .before .before .before .before .before .before .before .before .gates .ensures) (c .before .before .before .before .before .before .before .before .before .before .outputs .ensures) in
+    let count : at-needed .result ≡ needed (gates ws) (outputs ws) = at-needed .ensures ∙ ap₂ needed (at-gates .ensures) (at-outputs .ensures) in
     let room : needed (gates ws) (outputs ws) ≤ length (a .area .now) = omega arith in
     let e = fine-room (gates ws) (outputs ws) (length (a .area .now)) room in
-    let copied = c .before .before .before .before .before .before .copy-words .ensures ∙ ap (λ (k : ℕ). take k ws ++ drop k (a .area .now)) count in
+    let copied = at-copy-words .ensures ∙ ap (λ (k : ℕ). take k ws ++ drop k (a .area .now)) count in
     (rw e refl, rw e (c .before .before .work-all .ensures ∙ ap workAll copied))
 
 pub open-fitting-spec : {M : Type 1} → statement M

@@ -18,32 +18,45 @@ use Rattle.bench.proofs.open_loaded.Tie as tie
 returns : tie.Need-returns
 unfolding loadedJudgement
 returns c =
-    let a = c .before .before .before .before .before .before .before .before .before .before .before .before .before .before .before .args in
+    let s = c .before .before .before .before .before .before .before .before .before .before .before .before .before .before .before in
+    let at-inputs = c .before .before .before .before .before .before .before .before .before .before .before .before .inputs in
+    let at-gates = c .before .before .before .before .before .before .before .before .before .before .before .gates in
+    let at-count-readers = c .before .before .before .before .before .before .before .before .before .before .count-readers in
+    let at-judge-shared = c .before .before .before .before .before .before .before .before .judge-shared in
+    let at-enum-told = c .before .before .before .before .before .before .enum-told in
+    let at-live-gates = c .before .before .before .live-gates in
+    let at-open-fitting = c .before .before .open-fitting in
+    let a = s .args in
     let ws = a .words .now in
-    let xs = c .before .before .before .before .before .before .before .before .before .before .count-readers .result in
-    let shared : sharedJudgement (netOf ws [] []) ≡ c .before .before .before .before .before .before .before .before .judge-shared .result
+    let xs = at-count-readers .result in
+    let shared : sharedJudgement (netOf ws [] []) ≡ at-judge-shared .result
     = sym
-    (c .before .before .before .before .before .before .before .before .judge-shared .ensures
-    ∙ ap₂ (sharedBy (λ s. getD xs s 0)) (c .before .before .before .before .before .before .before .before .before .before .before .before .inputs .ensures) (c .before .before .before .before .before .before .before .before .before .before .before .gates .ensures)
-    ∙ shared-are ws xs (c .before .before .before .before .before .before .before .before .before .before .count-readers .ensures) [] []) in
-    let e = otherwise-second (sharedJudgement (netOf ws [] [])) (roomOf ws (length (a .area .now))) (shared ∙ c .before .before .before .before .before .before .enum-told .given .1) in
-    let live : c .before .before .before .live-gates .result ≡ liveGates (netOf ws [] [])
-    = c .before .before .before .live-gates .ensures
-    ∙ ap₂ (liveCounted xs) (c .before .before .before .before .before .before .before .before .before .before .before .before .inputs .ensures) (c .before .before .before .before .before .before .before .before .before .before .before .gates .ensures)
-    ∙ live-gates-are ws xs (c .before .before .before .before .before .before .before .before .before .before .count-readers .ensures) [] [] in
-    (rw e (c .before .before .open-fitting .ensures .0 ∙ ap (opened (roomOf ws (length (a .area .now)))) live), rw e (c .before .before .open-fitting .ensures .1))
+    (at-judge-shared .ensures
+    ∙ ap₂ (sharedBy (λ s. getD xs s 0)) (at-inputs .ensures) (at-gates .ensures)
+    ∙ shared-are ws xs (at-count-readers .ensures) [] []) in
+    let e = otherwise-second (sharedJudgement (netOf ws [] [])) (roomOf ws (length (a .area .now))) (shared ∙ at-enum-told .given .1) in
+    let live : at-live-gates .result ≡ liveGates (netOf ws [] [])
+    = at-live-gates .ensures
+    ∙ ap₂ (liveCounted xs) (at-inputs .ensures) (at-gates .ensures)
+    ∙ live-gates-are ws xs (at-count-readers .ensures) [] [] in
+    (rw e (at-open-fitting .ensures .0 ∙ ap (opened (roomOf ws (length (a .area .now)))) live), rw e (at-open-fitting .ensures .1))
 
 returns-2 : tie.Need-returns-2
 unfolding loadedJudgement
 returns-2 c =
-    let a = c .before .before .before .before .before .before .before .before .before .before .args in
+    let s = c .before .before .before .before .before .before .before .before .before .before in
+    let at-inputs = c .before .before .before .before .before .before .before .inputs in
+    let at-gates = c .before .before .before .before .before .before .gates in
+    let at-count-readers = c .before .before .before .before .before .count-readers in
+    let at-judge-shared = c .before .before .before .judge-shared in
+    let a = s .args in
     let ws = a .words .now in
-    let xs = c .before .before .before .before .before .count-readers .result in
-    let shared : sharedJudgement (netOf ws [] []) ≡ c .before .before .before .judge-shared .result
+    let xs = at-count-readers .result in
+    let shared : sharedJudgement (netOf ws [] []) ≡ at-judge-shared .result
     = sym
-    (c .before .before .before .judge-shared .ensures
-    ∙ ap₂ (sharedBy (λ s. getD xs s 0)) (c .before .before .before .before .before .before .before .inputs .ensures) (c .before .before .before .before .before .before .gates .ensures)
-    ∙ shared-are ws xs (c .before .before .before .before .before .count-readers .ensures) [] []) in
+    (at-judge-shared .ensures
+    ∙ ap₂ (sharedBy (λ s. getD xs s 0)) (at-inputs .ensures) (at-gates .ensures)
+    ∙ shared-are ws xs (at-count-readers .ensures) [] []) in
     let e = otherwise-first (sharedJudgement (netOf ws [] [])) (roomOf ws (length (a .area .now))) _ _ (shared ∙ c .before .number .given .1) in
     (rw e refl, rw e refl)
 

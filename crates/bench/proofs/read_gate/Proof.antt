@@ -10,19 +10,25 @@ use Rattle.bench.proofs.read_gate.Tie as tie
 
 figure-requires : tie.Need-figure-requires
 figure-requires c κs =
-    let a = c .before .before .before .before .before .args in
-    let p = lent-fine (a .area .now) (read-gate (a .gate)) (sym (c .before .before .before .judge-gate .ensures) ∙ c .before .enum-told .given .1) in
+    let s = c .before .before .before .before .before in
+    let at-judge-gate = c .before .before .before .judge-gate in
+    let a = s .args in
+    let p = lent-fine (a .area .now) (read-gate (a .gate)) (sym (at-judge-gate .ensures) ∙ c .before .enum-told .given .1) in
     omega (arith, c .index .ensures, p .0 .workable .net .long, gate-fine (inputs (a .area .now)) (gates (a .area .now)) (a .gate) (p .1))
 
 returns : tie.Need-returns
 returns c =
-    let a = c .before .before .before .before .before .before .args in
-    let e = sym (c .before .before .before .before .judge-gate .ensures) ∙ c .before .before .enum-told .given .1 in
+    let s = c .before .before .before .before .before .before in
+    let at-judge-gate = c .before .before .before .before .judge-gate in
+    let a = s .args in
+    let e = sym (at-judge-gate .ensures) ∙ c .before .before .enum-told .given .1 in
     let word : c .figure .result ≡ figure (a .area .now) (a .gate) = c .figure .ensures ∙ ap (figure (a .area .now)) (c .before .index .ensures) in
     rw (e, word) refl
 
 returns-2 : tie.Need-returns-2
-returns-2 c = rw (sym (c .before .before .before .judge-gate .ensures) ∙ c .before .number .given .1) refl
+returns-2 c =
+    let at-judge-gate = c .before .before .before .judge-gate in
+    rw (sym (at-judge-gate .ensures) ∙ c .before .number .given .1) refl
 
 pub read-gate-spec : {M : Type 1} → statement M
 read-gate-spec =

@@ -10,22 +10,32 @@ use Rattle.bench.proofs.read_netlist.Tie as tie
 
 shared-slice-read-units : tie.Need-shared-slice-read-units
 shared-slice-read-units c =
-    let s = sound (c .before .before .before .before .before .args .area .now) (sym (c .before .before .before .judge .ensures) ∙ c .before .enum-told .given .1) in
-    omega (arith, s .workable .net .long)
+    let s = c .before .before .before .before .before in
+    let at-judge = c .before .before .before .judge in
+    let passed = sound (s .args .area .now) (sym (at-judge .ensures) ∙ c .before .enum-told .given .1) in
+    omega (arith, passed .workable .net .long)
 
 shared-slice-read-t8 : tie.Need-shared-slice-read-t8
 shared-slice-read-t8 c =
-    let s = sound (c .before .before .before .before .before .before .args .area .now) (sym (c .before .before .before .before .judge .ensures) ∙ c .before .before .enum-told .given .1) in
-    omega (arith, s .workable .net .long)
+    let s = c .before .before .before .before .before .before in
+    let at-judge = c .before .before .before .before .judge in
+    let passed = sound (s .args .area .now) (sym (at-judge .ensures) ∙ c .before .before .enum-told .given .1) in
+    omega (arith, passed .workable .net .long)
 
 returns : tie.Need-returns
 unfolding argumentJudgement
 returns c =
-    let s = sound (c .before .before .before .before .before .before .before .args .area .now) (sym (c .before .before .before .before .before .judge .ensures) ∙ c .before .before .before .enum-told .given .1) in
-    rw (lent-sound (c .before .before .before .before .before .before .before .args .area .now) read-netlist s) (c .units-as-f64 .result, refl, c .units-as-f64 .ensures)
+    let s = c .before .before .before .before .before .before .before in
+    let at-judge = c .before .before .before .before .before .judge in
+    let at-enum-told = c .before .before .before .enum-told in
+    let passed = sound (s .args .area .now) (sym (at-judge .ensures) ∙ at-enum-told .given .1) in
+    rw (lent-sound (s .args .area .now) read-netlist passed) (c .units-as-f64 .result, refl, c .units-as-f64 .ensures)
 
 returns-2 : tie.Need-returns-2
-returns-2 c = rw (lent-stopped (c .before .before .before .before .before .args .area .now) read-netlist _ _ (sym (c .before .before .before .judge .ensures) ∙ c .before .number .given .1)) refl
+returns-2 c =
+    let s = c .before .before .before .before .before in
+    let at-judge = c .before .before .before .judge in
+    rw (lent-stopped (s .args .area .now) read-netlist _ _ (sym (at-judge .ensures) ∙ c .before .number .given .1)) refl
 
 pub read-netlist-spec : {M : Type 1} → statement M
 read-netlist-spec =

@@ -9,24 +9,32 @@ use Rattle.bench.proofs.set_flip.Statement.{statement}
 use Rattle.bench.proofs.set_flip.Tie as tie
 
 set-known-flip-requires : tie.Need-set-known-flip-requires
-set-known-flip-requires c κs = sym (c .before .before .before .judge-gate .ensures) ∙ c .before .enum-told .given .1
+set-known-flip-requires c κs =
+    let at-judge-gate = c .before .before .before .judge-gate in
+    sym (at-judge-gate .ensures) ∙ c .before .enum-told .given .1
 
 returns : tie.Need-returns
 returns c =
-    let a = c .before .before .before .before .before .before .before .before .before .args in
+    let s = c .before .before .before .before .before .before .before .before .before in
+    let at-judge-gate = c .before .before .before .before .before .before .judge-gate in
+    let at-enum-told = c .before .before .before .before .enum-told in
+    let at-set-known-flip = c .before .before .set-known-flip in
+    let a = s .args in
     let judged =
     set-after-gate (a .area .now) (a .gate) (a .kind) (a .field)
     ∙ otherwise-second (lentJudgement (a .area .now) (read-gate (a .gate))) (flipJudgement (a .gate) (a .kind) (a .field))
-    (sym (c .before .before .before .before .before .before .judge-gate .ensures) ∙ c .before .before .before .before .enum-told .given .1) in
-    (c .before .before .set-known-flip .ensures .0 ∙ sym (ap flipSet judged), c .before .before .set-known-flip .ensures .1)
+    (sym (at-judge-gate .ensures) ∙ at-enum-told .given .1) in
+    (at-set-known-flip .ensures .0 ∙ sym (ap flipSet judged), at-set-known-flip .ensures .1)
 
 returns-2 : tie.Need-returns-2
 returns-2 c =
-    let a = c .before .before .before .before .before .before .args in
+    let s = c .before .before .before .before .before .before in
+    let at-judge-gate = c .before .before .before .judge-gate in
+    let a = s .args in
     let judged =
     set-after-gate (a .area .now) (a .gate) (a .kind) (a .field)
     ∙ otherwise-first (lentJudgement (a .area .now) (read-gate (a .gate))) (flipJudgement (a .gate) (a .kind) (a .field)) _ _
-    (sym (c .before .before .before .judge-gate .ensures) ∙ c .before .number .given .1) in
+    (sym (at-judge-gate .ensures) ∙ c .before .number .given .1) in
     (rw judged refl, rw judged refl)
 
 pub set-flip-spec : {M : Type 1} → statement M

@@ -13,22 +13,28 @@ use Rattle.bench_c.proofs.bench_set_flip.Tie as tie
 
 returns : tie.Need-returns
 returns c =
-    let a = c .before .before .before .before .before .before .before .before .args in
+    let s = c .before .before .before .before .before .before .before .before in
+    let at-field-bytes = c .before .before .before .before .before .field-bytes in
+    let at-set-flip = c .before .before .before .before .set-flip in
+    let a = s .args in
     let ws = a .area .now in
-    let b = c .before .before .before .before .before .field-bytes .ensures in
-    let told = c .before .before .before .before .set-flip .ensures .0 ∙ ap (λ (f : List ℕ). flipSet (judgement ws (set-flip (a .gate) (a .kind) f))) b in
-    let words = c .before .before .before .before .set-flip .ensures .1 ∙ ap (λ (f : List ℕ). left ws (set-flip (a .gate) (a .kind) f)) b in
+    let b = at-field-bytes .ensures in
+    let told = at-set-flip .ensures .0 ∙ ap (λ (f : List ℕ). flipSet (judgement ws (set-flip (a .gate) (a .kind) f))) b in
+    let words = at-set-flip .ensures .1 ∙ ap (λ (f : List ℕ). left ws (set-flip (a .gate) (a .kind) f)) b in
     let judged = judgement ws (set-flip (a .gate) (a .kind) (fieldBytes (a .field))) in
     let e = set-told judged .0 (sym told ∙ c .enum-told .given .1) in
     (rw e refl, words)
 
 returns-2 : tie.Need-returns-2
 returns-2 c =
-    let a = c .before .before .before .before .before .before .before .before .before .before .args in
+    let s = c .before .before .before .before .before .before .before .before .before .before in
+    let at-field-bytes = c .before .before .before .before .before .before .before .field-bytes in
+    let at-set-flip = c .before .before .before .before .before .before .set-flip in
+    let a = s .args in
     let ws = a .area .now in
-    let b = c .before .before .before .before .before .before .before .field-bytes .ensures in
-    let told = c .before .before .before .before .before .before .set-flip .ensures .0 ∙ ap (λ (f : List ℕ). flipSet (judgement ws (set-flip (a .gate) (a .kind) f))) b in
-    let words = c .before .before .before .before .before .before .set-flip .ensures .1 ∙ ap (λ (f : List ℕ). left ws (set-flip (a .gate) (a .kind) f)) b in
+    let b = at-field-bytes .ensures in
+    let told = at-set-flip .ensures .0 ∙ ap (λ (f : List ℕ). flipSet (judgement ws (set-flip (a .gate) (a .kind) f))) b in
+    let words = at-set-flip .ensures .1 ∙ ap (λ (f : List ℕ). left ws (set-flip (a .gate) (a .kind) f)) b in
     let judged = judgement ws (set-flip (a .gate) (a .kind) (fieldBytes (a .field))) in
     let e = set-told judged .1 _ _ (sym told ∙ c .before .before .answer .given .1) in
     (rw e (c .refused .ensures), words)
