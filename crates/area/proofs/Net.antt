@@ -1,18 +1,16 @@
 -- Laws of the netlist that words hold: its gates, its well-formedness, what does not depend on kinds and chances, and which words hold the same one.
 -- Assumes nothing.
-use Prim.Native.Nat.{ℕ, zero, suc, _+_, _*_, _≤_, _<_}
-use mathlib.Core.List.{List, [], _∷_}
+use Prim.Native.Nat.{ℕ, zero, suc, _+_, _≤_, _<_}
+use mathlib.Core.List.{List, _∷_}
 use mathlib.Core.Path.{_≡_, refl, sym, ap, ap₂, subst, _∙_}
 use native.Mathlib.Nat.{add-zero, zero-add}
 use native.Mathlib.Omega.{arith}
-use lib.ListN.{length, getD, take, drop, length-take}
-use lib.Seq.{getD-take, getD-drop, take-take}
+use lib.ListN.{length, getD}
 use Rattle.netlist.specs.Netlist.{noGate, gateAt}
-use Rattle.lists.specs.Lists.{Below}
 use Rattle.netlist.specs.WellFormed.{PinsBelow, WellFormed}
 use Rattle.lists.specs.Lists.{count}
 use Rattle.netlist.specs.Live.{withGate, liveReadsFrom, liveReads, readers, liveAmong, liveGates, SingleReaders}
-use Rattle.area.specs.Layout.{mostSources, inputs, gates, outputs, pinCount, table, pinsIndex, pins, usedPins, outputsIndex, outputWords}
+use Rattle.area.specs.Layout.{inputs, gates, table, usedPins, outputWords}
 use Rattle.area.specs.Rules.{NetSound}
 use Rattle.area.specs.Net.{gateOf, gatesFrom, netOf}
 use Rattle.area.proofs.Words.{used-below, output-below}

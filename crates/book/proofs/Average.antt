@@ -48,7 +48,8 @@ module _ (size : ℕ) (ws : List ℕ) (b : Book) (agree : Agree size ws b) where
       work-all-flip stored j
       ∙ getD-set-other ws patternIndex (flipIndex j) q 0 (λ e. omega arith)
       ∙ agree .converted .flips j (omega (arith, same-gates ws after same)) in
-      reliability-holds chanceScale after kinds chances (net-same ws after (agree .sound .workable .net) same) (work-all-fresh stored net) (record { flips = flips })
+      let held = net-same ws after (agree .sound .workable .net) same in
+      reliability-holds chanceScale after kinds chances held (work-all-fresh stored net) (record { flips = flips })
       ∙ ap₂ (reliability unitsInOne chanceScale) (frame-net ws after kinds chances same ∙ agree .held) kept
 
   pub average-is : (weights : List ℕ) → averageOf ws weights ≡ averageUnits unitsInOne chanceScale (b .net) weights

@@ -125,7 +125,8 @@ shown-set g kind field =
 
 -- ---- reads
 
-untouched : {call : Call} → ((ws : List ℕ) (b : Book) → (work ws call ≡ ws) × (entered b call ≡ b)) → ((ws : List ℕ) (b : Book) → AnswerKept ws b call) → Lent call
+untouched : {call : Call} → ((ws : List ℕ) (b : Book) → (work ws call ≡ ws) × (entered b call ≡ b))
+    → ((ws : List ℕ) (b : Book) → AnswerKept ws b call) → Lent call
 untouched same answer =
     record {
       agrees = λ size ws b agree e. let s = same ws b in rw (s .0, s .1) agree;

@@ -13,7 +13,8 @@ use Rattle.area.specs.Net.{gateOf, netOf}
 use Rattle.area.proofs.Net.{gate-count, gate-at}
 use Rattle.book.specs.Book.{reflipped, withFlip}
 
-module _ (ws kinds chances : List ℕ) (g kind chance : ℕ) (small : g < gates ws) (kind-each : gates ws ≤ length kinds) (chance-each : gates ws ≤ length chances) where
+module _ (ws kinds chances : List ℕ) (g kind chance : ℕ) (small : g < gates ws) (kind-each : gates ws ≤ length kinds)
+    (chance-each : gates ws ≤ length chances) where
   gate-named : gateOf ws (set kinds g kind) (set chances g chance) g ≡ reflipped (gateAt (netOf ws kinds chances) g) kind chance
   gate-named =
       ap₂ (reflipped (gateOf ws kinds chances g)) (getD-set-same kinds g kind 0 (omega arith)) (getD-set-same chances g chance 0 (omega arith))

@@ -23,7 +23,8 @@ pub record Shown (call : Call) : Type 0 where
 
 -- of a call on an open area: what it does where its arguments pass
 pub record Lent (call : Call) : Type 0 where
-  pub agrees : (size : ℕ) (ws : List ℕ) (b : Book) → Agree size ws b → argumentJudgement (inputs ws) (gates ws) call ≡ Fine → Agree size (work ws call) (entered b call)
+  pub agrees : (size : ℕ) (ws : List ℕ) (b : Book) → Agree size ws b → argumentJudgement (inputs ws) (gates ws) call ≡ Fine
+      → Agree size (work ws call) (entered b call)
   pub answers : (size : ℕ) (ws : List ℕ) (b : Book) → Agree size ws b → argumentJudgement (inputs ws) (gates ws) call ≡ Fine → AnswerKept ws b call
 
 module _ (size : ℕ) (ws : List ℕ) (b : Book) (call : Call) (agree : Agree size ws b) where

@@ -115,88 +115,38 @@ pub record Opening : Type 0 where
   pub exact : List ℕ
   pub parts : ℕ
 
+-- an image that is accepted, and one that is refused
+abbrev pub accepted : List ℕ → ℕ → List ℕ → ℕ → List ℕ → List ℕ → ℕ → Opening
+accepted image live reliabilities average failures exact parts =
+    record {
+      image = image;
+      judged = Fine;
+      live = live;
+      reliabilities = reliabilities;
+      average = average;
+      failures = failures;
+      exact = exact;
+      parts = parts;
+    }
+
+abbrev pub refused : List ℕ → ℕ → ℕ → ℕ → Opening
+refused image live number place =
+    record { image = image; judged = Refused number place; live = live; reliabilities = []; average = 0; failures = []; exact = []; parts = 1 }
+
+-- image, live gates, reliabilities, average, failures, exact sums of so many parts
 abbrev pub openings : List Opening
 openings =
-    record {
-      image = printedImage;
-      judged = Fine;
-      live = 3;
-      reliabilities = 805_306_368 ∷ 805_306_368 ∷ 805_306_368 ∷ 268_435_456 ∷ [];
-      average = 671_088_640;
-      failures = 536_870_912 ∷ 536_870_912 ∷ 268_435_456 ∷ [];
-      exact = 3 ∷ 3 ∷ 3 ∷ 1 ∷ [];
-      parts = 4;
-    }
-    ∷ record {
-      image = twoAndsImage;
-      judged = Fine;
-      live = 2;
-      reliabilities = replicate 8 969_051_997;
-      average = 969_051_997;
-      failures = 53_687_091 ∷ 53_687_091 ∷ [];
-      exact = replicate 8 4_686_047_914_827_681_907_366_887_202_708_521;
-      parts = 2 ^ 112;
-    }
-    ∷ record {
-      image = andInverterImage;
-      judged = Fine;
-      live = 2;
-      reliabilities = replicate 4 971_736_351;
-      average = 971_736_351;
-      failures = 53_687_091 ∷ 102_005_473 ∷ [];
-      exact = replicate 4 2_349_514_328_487_009_488_939_682_662_145_065;
-      parts = 2 ^ 111;
-    }
-    ∷ record {
-      image = sureBuffersImage;
-      judged = Fine;
-      live = 2;
-      reliabilities = replicate 2 1_073_741_824;
-      average = 1_073_741_824;
-      failures = 1_073_741_824 ∷ 0 ∷ [];
-      exact = replicate 2 1;
-      parts = 1;
-    }
-    ∷ record {
-      image = noGatesImage;
-      judged = Fine;
-      live = 0;
-      reliabilities = replicate 2 1_073_741_824;
-      average = 1_073_741_824;
-      failures = [];
-      exact = replicate 2 1;
-      parts = 1;
-    }
-    ∷ record {
-      image = gateTwiceImage;
-      judged = Refused 9 0;
-      live = 2;
-      reliabilities = [];
-      average = 0;
-      failures = [];
-      exact = [];
-      parts = 1;
-    }
-    ∷ record {
-      image = inputTwiceImage;
-      judged = Fine;
-      live = 1;
-      reliabilities = replicate 2 1_073_741_824;
-      average = 1_073_741_824;
-      failures = 0 ∷ [];
-      exact = replicate 2 1;
-      parts = 1;
-    }
-    ∷ record {
-      image = deadReaderImage;
-      judged = Fine;
-      live = 2;
-      reliabilities = replicate 2 536_870_912;
-      average = 536_870_912;
-      failures = 536_870_912 ∷ 536_870_912 ∷ 536_870_912 ∷ [];
-      exact = replicate 2 1;
-      parts = 2;
-    }
+    accepted printedImage 3 (805_306_368 ∷ 805_306_368 ∷ 805_306_368 ∷ 268_435_456 ∷ []) 671_088_640
+    (536_870_912 ∷ 536_870_912 ∷ 268_435_456 ∷ []) (3 ∷ 3 ∷ 3 ∷ 1 ∷ []) 4
+    ∷ accepted twoAndsImage 2 (replicate 8 969_051_997) 969_051_997
+    (53_687_091 ∷ 53_687_091 ∷ []) (replicate 8 4_686_047_914_827_681_907_366_887_202_708_521) (2 ^ 112)
+    ∷ accepted andInverterImage 2 (replicate 4 971_736_351) 971_736_351
+    (53_687_091 ∷ 102_005_473 ∷ []) (replicate 4 2_349_514_328_487_009_488_939_682_662_145_065) (2 ^ 111)
+    ∷ accepted sureBuffersImage 2 (replicate 2 1_073_741_824) 1_073_741_824 (1_073_741_824 ∷ 0 ∷ []) (replicate 2 1) 1
+    ∷ accepted noGatesImage 0 (replicate 2 1_073_741_824) 1_073_741_824 [] (replicate 2 1) 1
+    ∷ refused gateTwiceImage 2 9 0
+    ∷ accepted inputTwiceImage 1 (replicate 2 1_073_741_824) 1_073_741_824 (0 ∷ []) (replicate 2 1) 1
+    ∷ accepted deadReaderImage 2 (replicate 2 536_870_912) 536_870_912 (536_870_912 ∷ 536_870_912 ∷ 536_870_912 ∷ []) (replicate 2 1) 2
     ∷ []
 
 -- ---- what the definitions give for each column

@@ -176,7 +176,8 @@ pub strike-exact : StrikeExact
 strike-exact field a c b d e f =
     let x = ofBits binary32 (firstHalf field) in
     let y = ofBits binary32 (secondHalf field) in
-    other-fractions (num x) (den x) a c (num y) (den y) b d chanceScale (flipChance 2 field) (den-pos x) (den-pos y) (cross x a c e) (cross y b d f) (strike-own field)
+    other-fractions (num x) (den x) a c (num y) (den y) b d chanceScale (flipChance 2 field) (den-pos x) (den-pos y) (cross x a c e) (cross y b d f)
+    (strike-own field)
   where
     cross : (x : Float) (a c : ℕ) → Equals x a c → num x * c ≡ a * den x
     cross nan a c v = absurd v

@@ -3,6 +3,5 @@ pub mod Step
 pub mod Spread
 pub mod Under
 pub mod Laws
-pub mod Four
 pub mod Split
 pub mod Word

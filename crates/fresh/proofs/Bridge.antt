@@ -24,7 +24,8 @@ use Rattle.area.proofs.Words.{used-below, output-below}
 use Rattle.area.specs.Net.{netOf}
 use Rattle.area.proofs.Net.{gate-at, gate-count, sound-pins}
 use Rattle.fresh.specs.Fresh.{Fresh, Converted}
-use Rattle.fresh.proofs.Sources.{map-same, source-input, source-gate, source-cases}
+use Rattle.lists.proofs.Every.{map-same}
+use Rattle.fresh.proofs.Sources.{source-input, source-gate, source-cases}
 
 -- 2 × failure + right value, taken apart
 right-of-word : (f : ℕ) (b : Bool) → rightOf (2 * f + bitOf b) ≡ b

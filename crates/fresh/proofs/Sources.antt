@@ -16,10 +16,7 @@ use Rattle.work.specs.Work.{gateFigure, workGate, reliabilityNow}
 use Rattle.area.specs.Figures.{gateWordFrom, productFrom}
 use Rattle.area.proofs.Words.{used-below, output-below}
 use Rattle.work.proofs.Frame.{SameFrame, same-inputs, same-table, same-used-pins, same-output-words, same-work-gate, work-gate-kept}
-
-pub map-same : {B : Type 0} (f h : ℕ → B) (xs : List ℕ) → ((i : ℕ) → i < length xs → f (getD xs i 0) ≡ h (getD xs i 0)) → map f xs ≡ map h xs
-map-same f h [] e = refl
-map-same f h (x ∷ xs) e = ap₂ _∷_ (e 0 (omega arith)) (map-same f h xs (λ i l. e (suc i) (omega arith)))
+use Rattle.lists.proofs.Every.{map-same}
 
 -- a source's word: an input's bit, a gate's figure
 pub source-input : (ws : List ℕ) (s : ℕ) → s < inputs ws → sourceWord ws s ≡ pattern ws / 2 ^ s % 2

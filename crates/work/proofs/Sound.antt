@@ -1,5 +1,5 @@
 -- Areas that keep rule 14 stay so: the netlist is as it was, and what is worked out or stored fits its word. Assumes nothing.
-use Prim.Native.Nat.{ℕ, zero, suc, _+_, _-_, _/_, _%_, _^_, _≤_, _<_}
+use Prim.Native.Nat.{ℕ, suc, _+_, _-_, _/_, _%_, _^_, _≤_, _<_}
 use mathlib.Core.Bool.{Bool, true, false, cond}
 use mathlib.Core.List.{List, [], _∷_, map}
 use mathlib.Core.Logic.{by-cases}
@@ -12,6 +12,7 @@ use lib.Seq.{getD-set-same, getD-set-other}
 use lib.Dec.{ltb}
 use borrow.Author.Tests.{ltb-false}
 use Rattle.lists.specs.Lists.{Below}
+use Rattle.lists.proofs.Every.{map-all}
 use Rattle.rounding.specs.Rounding.{unitsInOne}
 use Rattle.figure.specs.Figure.{bitOf, answer, outputStep, rightOf, failureOf, gateWord}
 use Rattle.figure.proofs.Laws.{failure-at-most, output-at-most}
@@ -105,12 +106,6 @@ workable-store-flip ws g units workable l h =
 
 -- ---- what is worked out fits
 
--- what holds of 0 and of f at every entry holds of every entry of map f
-all-map : (P : ℕ → Type 0) → P 0 → (f : ℕ → ℕ) (xs : List ℕ) → ((i : ℕ) → i < length xs → P (f (getD xs i 0))) → (i : ℕ) → P (getD (map f xs) i 0)
-all-map P z f [] h i = z
-all-map P z f (x ∷ xs) h zero = h 0 (omega arith)
-all-map P z f (x ∷ xs) h (suc i) = all-map P z f xs (λ k l. h (suc k) (omega arith)) i
-
 bit-fits : (b : Bool) → bitOf b ≤ 1
 bit-fits true = omega arith
 bit-fits false = omega arith
@@ -132,10 +127,10 @@ module _ (ws : List ℕ) (workable : Workable ws) where
   gate-figure-fits j l =
       let words = map (sourceWord ws) (usedPins ws j) in
       let fails : (i : ℕ) → getD (map failureOf words) i 0 + 0 ≤ unitsInOne
-      = λ i. all-map (λ (x : ℕ). x + 0 ≤ unitsInOne) (omega arith) failureOf words
+      = λ i. map-all 0 (λ (x : ℕ). x + 0 ≤ unitsInOne) (omega arith) failureOf words
       (λ k s. omega (
         arith,
-        all-map (λ (x : ℕ). x ≤ largestFigure) (omega arith) (sourceWord ws) (usedPins ws j)
+        map-all 0 (λ (x : ℕ). x ≤ largestFigure) (omega arith) (sourceWord ws) (usedPins ws j)
             (λ p t. source-word-fits (getD (usedPins ws j) p 0) (omega (arith, used-below ws (workable .net) j l p t))) k,
       )) i in
       omega (

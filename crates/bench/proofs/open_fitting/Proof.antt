@@ -19,7 +19,8 @@ returns c =
     let at-needed = c .before .needed in
     let a = s .args in
     let ws = a .words .now in
-    let count : at-needed .result ≡ needed (gates ws) (outputs ws) = at-needed .ensures ∙ ap₂ needed (at-gates .ensures) (c .before .before .outputs .ensures) in
+    let count : at-needed .result ≡ needed (gates ws) (outputs ws)
+    = at-needed .ensures ∙ ap₂ needed (at-gates .ensures) (c .before .before .outputs .ensures) in
     let short : length (a .area .now) < needed (gates ws) (outputs ws) = omega arith in
     let e = short-room (gates ws) (outputs ws) (length (a .area .now)) short in
     (rw e refl, rw e refl)

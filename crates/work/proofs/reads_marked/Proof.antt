@@ -81,4 +81,15 @@ returns-2 c =
 pub reads-marked-spec : {M : Type 1} → statement M
 reads-marked-spec =
     tie.close
-    (tie.spec Inv-loop μ-loop pin-count-requires loop-holds pin-requires element-copy-out-if1 returns (λ c. search needs) (λ c. search needs) loop-again returns-2)
+    (tie.spec
+    Inv-loop
+    μ-loop
+    pin-count-requires
+    loop-holds
+    pin-requires
+    element-copy-out-if1
+    returns
+    (λ c. search needs)
+    (λ c. search needs)
+    loop-again
+    returns-2)

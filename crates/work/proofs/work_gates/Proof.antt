@@ -57,4 +57,15 @@ returns c =
 
 pub work-gates-spec : {M : Type 1} → statement M
 work-gates-spec =
-    tie.close (tie.spec Inv-loop μ-loop (λ c κs. search needs) loop-holds work-gate-requires (λ c. search needs) (λ c. search needs) loop-again same-length returns)
+    tie.close
+    (tie.spec
+    Inv-loop
+    μ-loop
+    (λ c κs. search needs)
+    loop-holds
+    work-gate-requires
+    (λ c. search needs)
+    (λ c. search needs)
+    loop-again
+    same-length
+    returns)
