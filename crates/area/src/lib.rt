@@ -2,6 +2,7 @@
 ghost use mathlib.Core.Path.{_≡_};
 ghost use Prim.Native.Nat.{_+_, _<_, _≤_};
 ghost use lib.ListN.{length, getD, set};
+ghost use lib.Seq.{sets};
 ghost use Rattle.area.specs.Layout as layout;
 
 // Limits.
@@ -14,18 +15,18 @@ pub const MOST_GATES: usize = 1024;
 pub const MOST_OUTPUTS: usize = 64;
 
 // Inputs and gates together.
-pub const MOST_SOURCES: usize = 1036;
+pub const MOST_SOURCES: usize = MOST_INPUTS + MOST_GATES;
 
 // 2^12.
 pub const MOST_PATTERNS: usize = 4096;
 
 // Words that the largest netlist needs.
-pub const MOST_WORDS: usize = 8264;
+pub const MOST_WORDS: usize = HEAD_WORDS + GATE_WORDS * MOST_GATES + MOST_OUTPUTS;
 
 pub const LARGEST_FLIP: u32 = 1_073_741_824;
 
 // 2 × U + 1.
-pub const LARGEST_FIGURE: u32 = 2_147_483_649;
+pub const LARGEST_FIGURE: u32 = 2 * LARGEST_FLIP + 1;
 
 pub const LARGEST_WEIGHT: u32 = 1_048_575;
 
@@ -175,4 +176,16 @@ pub fn needed(gates: usize, outputs: usize) -> usize
     ensures { λ r. ⌜ r ≡ layout.needed gates outputs ⌝ }
 {
     HEAD_WORDS + GATE_WORDS * gates + outputs
+}
+
+// Stores values from `base` on.
+pub fn store(words: &mut [u32], base: usize, values: &[u32])
+    requires { ⌜ base + length (now values) ≤ length (now words) ⌝ }
+    ensures { λ _. ⌜ now (words .exit) ≡ sets (now (words .entry)) base (now (values .entry)) ⌝ }
+{
+    let mut i = 0;
+    while i < values.len() {
+        words[base + i] = values[i];
+        i += 1;
+    }
 }

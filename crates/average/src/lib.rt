@@ -17,21 +17,6 @@ ghost use Rattle.average.specs.WeightedSum.{weightedTo, BlockAdds};
 ghost use Rattle.average.specs.Blocks.{ReadersOf, Block, OutputsFit, OutputLanes};
 use refusal::Judgement;
 
-// Refusal 12 by the weights themselves: the lowest that is too large.
-fn judge_each(weights: &[u32]) -> Judgement
-    requires { ⌜ length (now weights) ≤ layout.mostPatterns ⌝ }
-    ensures { λ r. ⌜ r ≡ lowest (weightJudgement (now (weights .entry))) (length (now (weights .entry))) ⌝ }
-{
-    let mut q = 0;
-    while q < weights.len() {
-        if weights[q] > area::LARGEST_WEIGHT {
-            return Judgement::Refused(refusal::WEIGHTS, q as u32);
-        }
-        q += 1;
-    }
-    Judgement::Fine
-}
-
 fn all_zero(weights: &[u32]) -> bool
     ensures { λ r. ⌜ r ≡ allZero (now (weights .entry)) ⌝ }
 {
@@ -53,7 +38,7 @@ pub fn judge_weights(inputs: usize, weights: &[u32]) -> Judgement
     if weights.len() != 1 << inputs {
         return Judgement::Refused(refusal::WEIGHTS, 0);
     }
-    match judge_each(weights) {
+    match refusal::judge_each(weights, area::LARGEST_WEIGHT, refusal::WEIGHTS) {
         Judgement::Fine => {
             if all_zero(weights) {
                 return Judgement::Refused(refusal::WEIGHTS, 0);

@@ -51,18 +51,6 @@ pub enum GateRead {
     Refused(u8, u32),
 }
 
-// Copies the first `count` words.
-fn copy_words(area: &mut [u32], words: &[u32], count: usize)
-    requires { ⌜ (count ≤ length (now area)) × (count ≤ length (now words)) ⌝ }
-    ensures { λ _. ⌜ now (area .exit) ≡ take count (now (words .entry)) ++ drop count (now (area .entry)) ⌝ }
-{
-    let mut i = 0;
-    while i < count {
-        area[i] = words[i];
-        i += 1;
-    }
-}
-
 // Refusal 13 of a loaded netlist that has passed 9; if it does not apply its words go into the area, and every figure is worked out.
 fn open_fitting(area: &mut [u32], words: &[u32], live: u32) -> Opened
     requires { ⌜ NetSound (now words) ⌝ }
@@ -75,7 +63,7 @@ fn open_fitting(area: &mut [u32], words: &[u32], live: u32) -> Opened
     if area.len() < needed {
         return Opened::Refused(refusal::TOO_SHORT, 0);
     }
-    copy_words(area, words, needed);
+    area::store(area, 0, &words[..needed]);
     work::work_all(area);
     Opened::Done(live)
 }

@@ -3,12 +3,12 @@ use Prim.Native.Nat.{ℕ, _^_, _≤_, _<_}
 use mathlib.Core.Bool.{false, not}
 use mathlib.Core.List.{List}
 use mathlib.Core.Path.{_≡_}
-use lib.Dec.{leb, ltb, eqb}
+use lib.Dec.{ltb, eqb}
 use lib.ListN.{length, getD}
 use Rattle.lists.specs.Lists.{allZero}
 use Rattle.refusal.specs.declared.Judgement.{Judgement}
 use Rattle.refusal.specs.declared.Judgement.the-variants.{Fine}
-use Rattle.refusal.specs.Judgement.{refuseUnless, otherwise, lowest}
+use Rattle.refusal.specs.Judgement.{refuseUnless, otherwise, lowest, wordJudgement}
 use Rattle.chance.specs.Flip.{flipAccepted}
 use Rattle.area.specs.Layout.{largestWeight, inputs, gates}
 use Rattle.area.specs.Rules.{roomJudgement, areaJudgement}
@@ -36,7 +36,7 @@ flipJudgement g kind field = refuseUnless (flipAccepted kind field) 11 g
 
 -- 12: the length of the weights, else the lowest one above 1,048,575, else all zero
 abbrev pub weightJudgement : List ℕ → ℕ → Judgement
-weightJudgement weights q = refuseUnless (leb (getD weights q 0) largestWeight) 12 q
+weightJudgement weights = wordJudgement weights largestWeight 12
 
 unfoldable pub weightsJudgement : ℕ → List ℕ → Judgement
 weightsJudgement n weights =

@@ -4,10 +4,10 @@ use mathlib.Core.Path.{_≡_, refl, sym, ap, _∙_}
 use mathlib.Core.List.{List, [], _∷_, _++_}
 use native.Mathlib.Omega.{arith}
 use lib.ListN.{length, getD, take, drop, length-append, length-drop}
-use lib.Seq.{sets, sets-eq, length-take-le}
+use lib.Seq.{sets, length-take-le}
 use Rattle.chance.specs.Flip.{flipUnits}
 use Rattle.area.specs.Layout.{headWords, gateWords, gateIndex, outputsIndex, needed}
-use Rattle.lists.proofs.Parts.{sets-append}
+use Rattle.lists.proofs.Parts.{sets-append, sets-first}
 use Rattle.lists.proofs.Joined.{length-joined, length-listed}
 use Rattle.image.specs.Image.{middleBytes, trailerAt, imageInputs, imageGates, imageOutputs, imageBack, middle}
 use Rattle.image.specs.Image.{recordCount, recordKind, recordTable, recordPins, recordField, outputAt}
@@ -73,6 +73,4 @@ length-words bs = length-middle (middle bs) (imageInputs bs) (imageGates bs) (im
 
 pub stored-front : (bs l w : List ℕ) → needed (imageGates bs) (imageOutputs bs) ≤ length l → w ≡ sets l 0 (imageWords bs)
     → w ≡ imageOver bs l
-stored-front bs l w h e =
-    let i : 0 + length (imageWords bs) ≡ needed (imageGates bs) (imageOutputs bs) = omega (arith, length-words bs) in
-    e ∙ sets-eq (imageWords bs) l 0 (omega arith) ∙ ap (λ (i : ℕ). imageWords bs ++ drop i l) i
+stored-front bs l w h e = e ∙ sets-first (imageWords bs) l (needed (imageGates bs) (imageOutputs bs)) (length-words bs) h

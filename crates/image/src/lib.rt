@@ -94,18 +94,6 @@ fn eight_bytes(bytes: &[u8], at: usize) -> [u8; 8]
     ]
 }
 
-// Stores values from `base` on.
-fn store(words: &mut [u32], base: usize, values: &[u32])
-    requires { ⌜ base + length (now values) ≤ length (now words) ⌝ }
-    ensures { λ _. ⌜ now (words .exit) ≡ sets (now (words .entry)) base (now (values .entry)) ⌝ }
-{
-    let mut i = 0;
-    while i < values.len() {
-        words[base + i] = values[i];
-        i += 1;
-    }
-}
-
 // Gate j: refusals 5, 6 and 7, else its words, the figure word 0.
 fn load_gate(middle: &[u8], inputs: usize, j: usize, words: &mut [u32]) -> Judgement
     requires { ⌜ recordAt j + recordBytes ≤ length (now middle) ⌝ }
@@ -128,7 +116,7 @@ fn load_gate(middle: &[u8], inputs: usize, j: usize, words: &mut [u32]) -> Judge
     match chance::read_units(middle[at + KIND], eight_bytes(middle, at + FIELD)) {
         FlipUnits::Units(units) => {
             let gate = [count, table, pins[0], pins[1], pins[2], pins[3], units, 0];
-            store(words, area::gate_index(j), &gate[..]);
+            area::store(words, area::gate_index(j), &gate[..]);
             Judgement::Fine
         }
         FlipUnits::Refused => Judgement::Refused(refusal::GATE_FLIP, j as u32),
@@ -216,7 +204,7 @@ fn load_middle(
     ensures { λ r. ⌜ (r ≡ Fine → now (words .exit) ≡ sets (now (words .entry)) 0 (middleWords (now (middle .entry)) inputs gates outputs)) ⌝ }
 {
     let head = [inputs as u32, gates as u32, outputs as u32, 0, 0, 0, 0, 0];
-    store(words, 0, &head[..]);
+    area::store(words, 0, &head[..]);
     match load_gates(middle, inputs, gates, words) {
         Judgement::Fine => load_outputs(middle, inputs, gates, outputs, words),
         Judgement::Refused(number, place) => Judgement::Refused(number, place),

@@ -15,7 +15,7 @@ ghost use Rattle.lanes.specs.Lanes.{Readable, InputsSure, PinsReadable, 
 pub const LANES: usize = 8;
 
 // LANES for each source.
-pub const LANE_WORDS: usize = 8288;
+pub const LANE_WORDS: usize = LANES * area::MOST_SOURCES;
 
 // The inputs' words in each lane, for the eight patterns from `first` on.
 pub fn input_lanes(lanes: &mut [u32; LANE_WORDS], inputs: usize, first: usize)

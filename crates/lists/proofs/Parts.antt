@@ -4,8 +4,8 @@ use mathlib.Core.List.{List, [], _∷_, _++_}
 use mathlib.Core.Path.{_≡_, refl, sym, ap, _∙_}
 use native.Mathlib.Numerals.{add-one}
 use native.Mathlib.Omega.{arith}
-use lib.ListN.{length, getD, take, drop, set, replicate, length-append, length-take, length-drop}
-use lib.Seq.{sets, take-suc, drop-cons, set-at, append-snoc, length-take-le, getD-take, getD-drop}
+use lib.ListN.{length, getD, take, drop, set, replicate, length-take, length-drop}
+use lib.Seq.{sets-eq, sets, take-suc, length-take-le, getD-take, getD-drop}
 
 -- an entry of a part in its place
 pub part-at : (xs : List ℕ) (from count i : ℕ) → i < count → getD (take count (drop from xs)) i 0 ≡ getD xs (from + i) 0
@@ -52,14 +52,8 @@ sets-turn vs l ws b i h e =
     let n : b + i ≡ b + length (take i vs) = ap (λ (k : ℕ). b + k) (sym (length-take-le i vs (omega arith))) in
     rw (e, s) (sym (sets-append (take i vs) (getD vs i 0 ∷ []) l b (b + i) n))
 
--- a list copied over the front of another, one entry a turn
-pub copy-turn : (xs ys now : List ℕ) (i : ℕ) → i < length xs → i < length ys → now ≡ take i xs ++ drop i ys
-    → set now i (getD xs i 0) ≡ take (i + 1) xs ++ drop (i + 1) ys
-copy-turn xs ys now i hx hy e =
-    ap (λ (l : List ℕ). set l i (getD xs i 0)) (e ∙ ap (λ (l : List ℕ). take i xs ++ l) (drop-cons ys i 0 hy))
-    ∙ set-at (take i xs) (getD ys i 0) (drop (suc i) ys) (getD xs i 0) i (length-take-le i xs (omega arith))
-    ∙ sym (append-snoc (take i xs) (getD xs i 0) (drop (suc i) ys))
-    ∙ rw (add-one i, take-suc xs i 0 hx) refl
-
-pub copied-length : (xs ys : List ℕ) (i : ℕ) → i ≤ length xs → i ≤ length ys → length (take i xs ++ drop i ys) ≡ length ys
-copied-length xs ys i hx hy = omega (arith, length-append (take i xs) (drop i ys), length-take-le i xs hx, length-drop i ys)
+-- a list stored from the front on; and the front of one
+pub sets-first : (vs l : List ℕ) (n : ℕ) → length vs ≡ n → n ≤ length l → sets l 0 vs ≡ vs ++ drop n l
+sets-first vs l n e h =
+    let end : 0 + length vs ≡ n = omega arith in
+    sets-eq vs l 0 (omega arith) ∙ ap (λ (i : ℕ). vs ++ drop i l) end

@@ -82,16 +82,10 @@ pub fn live_gates(readers: &[u32; area::MOST_SOURCES], inputs: usize, gates: usi
 }
 
 // Refusal 9: the lowest gate with two readers or more.
-pub fn judge_shared(readers: &[u32; area::MOST_SOURCES], inputs: usize, gates: usize) -> Judgement
-    requires { ⌜ inputs + gates ≤ layout.mostSources ⌝ }
+pub fn judge_shared(readers: &[u32], inputs: usize, gates: usize) -> Judgement
+    requires { ⌜ (inputs + gates ≤ length (now readers)) × (gates ≤ layout.mostGates) ⌝ }
     ensures { λ r. ⌜ r ≡ sharedBy (λ s. getD (now (readers .entry)) s 0) inputs gates ⌝ }
 {
-    let mut gate = 0;
-    while gate < gates {
-        if 1 < readers[inputs + gate] {
-            return Judgement::Refused(refusal::SHARED, gate as u32);
-        }
-        gate += 1;
-    }
-    Judgement::Fine
+    let end = inputs + gates;
+    refusal::judge_each(&readers[inputs..end], 1, refusal::SHARED)
 }

@@ -1,7 +1,7 @@
 -- The laws of judgements: what a whole says of its parts, the answer of a loop that stops at its first refusal, and numbers that are never given.
 -- Assumes nothing.
 use Prim.Native.Nat.{ℕ, zero, suc, _+_, _<_}
-use mathlib.Core.Path.{_≡_, refl, sym, ap, subst, _∙_}
+use mathlib.Core.Path.{_≡_, refl, sym, ap, ap₂, subst, _∙_}
 use mathlib.Core.Bool.{Bool, true, false}
 use mathlib.Core.Logic.{⊎-elim}
 use native.Mathlib.Numerals.{add-one}
@@ -71,6 +71,11 @@ module _ (f : ℕ → Judgement) where
   -- the answer of a loop that stops at its first refusal
   pub lowest-answer : (k j a p : ℕ) → j < k → lowest f j ≡ Fine → f j ≡ Refused a p → Refused a p ≡ lowest f k
   lowest-answer k j a p l e h = sym (lowest-refused k j a p l e h)
+
+-- judgements that agree at the first k places
+pub lowest-same : (f g : ℕ → Judgement) (k : ℕ) → ((j : ℕ) → j < k → f j ≡ g j) → lowest f k ≡ lowest g k
+lowest-same f g zero h = refl
+lowest-same f g (suc k) h = ap₂ otherwise (lowest-same f g k (λ j l. h j (omega arith))) (h k (omega arith))
 
 -- the numbers that a judgement may give: of those that its parts may give
 abbrev pub Only : (ℕ → Type 0) → Judgement → Type 0

@@ -1,6 +1,9 @@
 -- Judgements in document 01's order: the code's enum says that nothing is wrong, or refuses with number and place.
 use Prim.Native.Nat.{ℕ, zero, suc}
 use mathlib.Core.Bool.{Bool, true, false}
+use mathlib.Core.List.{List}
+use lib.Dec.{leb}
+use lib.ListN.{getD}
 use Rattle.refusal.specs.declared.Judgement.{Judgement}
 use Rattle.refusal.specs.declared.Judgement.the-variants.{Fine, Refused}
 
@@ -18,6 +21,10 @@ otherwise (Refused number place) j = Refused number place
 abbrev pub lowest : (ℕ → Judgement) → ℕ → Judgement
 lowest f zero = Fine
 lowest f (suc k) = otherwise (lowest f k) (f k)
+
+-- place i of a list whose words must be at most `most`
+abbrev pub wordJudgement : List ℕ → ℕ → ℕ → ℕ → Judgement
+wordJudgement words most number i = refuseUnless (leb (getD words i 0) most) number i
 
 -- what a call leaves or answers: the new where nothing is refused, else the old
 abbrev pub unlessRefused {ℓ} : {A : Type ℓ} → Judgement → A → A → A

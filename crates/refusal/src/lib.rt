@@ -1,4 +1,8 @@
 // Refusals: what is judged of an image, an area or a call's arguments, and the numbers of document 01.
+ghost use mathlib.Core.Path.{_≡_};
+ghost use Prim.Native.Nat.{_<_};
+ghost use lib.ListN.{length};
+ghost use Rattle.refusal.specs.Judgement.{lowest, wordJudgement};
 
 // Nothing is wrong, or refused with a number and a place.
 pub enum Judgement {
@@ -35,3 +39,18 @@ pub const WEIGHTS: u8 = 12;
 pub const TOO_SHORT: u8 = 13;
 
 pub const AREA_RULE: u8 = 14;
+
+// A list whose words must be at most `most`: the lowest place of a larger one, refused with this number. A place fits its 32 bits.
+pub fn judge_each(words: &[u32], most: u32, number: u8) -> Judgement
+    requires { ⌜ length (now words) < 4_294_967_296 ⌝ }
+    ensures { λ r. ⌜ r ≡ lowest (wordJudgement (now (words .entry)) most number) (length (now (words .entry))) ⌝ }
+{
+    let mut i = 0;
+    while i < words.len() {
+        if words[i] > most {
+            return Judgement::Refused(number, i as u32);
+        }
+        i += 1;
+    }
+    Judgement::Fine
+}

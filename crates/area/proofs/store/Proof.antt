@@ -1,4 +1,4 @@
--- `image::store` meets its contract: after i turns the first i values are stored. Assumes nothing.
+-- `area::store` meets its contract: after i turns the first i values are stored. Assumes nothing.
 use Prim.Native.Nat.{_-_, _≤_}
 use mathlib.Core.Path.{_≡_, refl, ap, _∙_}
 use native.Mathlib.Omega.{arith}
@@ -7,8 +7,8 @@ use lib.Seq.{sets, take-all}
 use denote.Ref.{now}
 use borrow.Author.Needs.{needs}
 use Rattle.lists.proofs.Parts.{sets-turn}
-use Rattle.image.proofs.store.Statement.{statement}
-use Rattle.image.proofs.store.Tie as tie
+use Rattle.area.proofs.store.Statement.{statement}
+use Rattle.area.proofs.store.Tie as tie
 
 abbrev Inv-loop : tie.InvT-loop
 Inv-loop words₀ base values i₀ words i =
