@@ -20,19 +20,18 @@ module _ (start : ℕ) (ps : List Pin) (used : ℕ) (indices : List ℕ) (spread
   pub spread-small : start + room ps ≤ 15 → (i : ℕ) → i < used → getD indices i 0 ≤ 15
   spread-small fits i l = omega (arith, spread-room 0 (omega arith) i l)
 
-  -- the word that comes of them: all pins are right at the first
-  pub word-made : (table flip : ℕ) (values : List ℕ) → 0 < used
+  -- the word that comes of them, where `right` is the answer at the first: there all pins are right
+  pub word-made : (table right flip : ℕ) (values : List ℕ) → 0 < used → right ≡ table / 2 ^ getD indices 0 0 % 2
       → getD (take 1 values) 0 0
-      ≡ foldPins unitsInOne (map (λ (p : Pin). failureOf (p .word)) ps)
-      (map (differs unitsInOne table (table / 2 ^ getD indices 0 0 % 2)) (take used indices))
-      → 2 * gateStep unitsInOne (getD values 0 0) flip + table / 2 ^ getD indices 0 0 % 2 ≡ pinsWord unitsInOne table start ps flip
+      ≡ foldPins unitsInOne (map (λ (p : Pin). failureOf (p .word)) ps) (map (differs unitsInOne table right) (take used indices))
+      → 2 * gateStep unitsInOne (getD values 0 0) flip + right ≡ pinsWord unitsInOne table start ps flip
   unfolding pinsWord lastValue
-  word-made table flip values some folded =
+  word-made table right flip values some answer folded =
       let fold : ℕ → List ℕ → ℕ
       = λ r xs. foldPins unitsInOne (map (λ (p : Pin). failureOf (p .word)) ps) (map (differs unitsInOne table r) xs) in
       let first : getD indices 0 0 ≡ rightIndex start ps
       = sym (getD-take used indices 0 0 some) ∙ ap (λ (xs : List ℕ). getD xs 0 0) spread ∙ first-index ps start in
-      let right : table / 2 ^ getD indices 0 0 % 2 ≡ rightBit table start ps = ap (λ (i : ℕ). table / 2 ^ i % 2) first in
+      let same : right ≡ rightBit table start ps = answer ∙ ap (λ (i : ℕ). table / 2 ^ i % 2) first in
       ap₂ (λ (m r : ℕ). 2 * gateStep unitsInOne m flip + r)
-      (sym (getD-take 1 values 0 0 (omega arith)) ∙ folded ∙ ap₂ fold right spread)
-      right
+      (sym (getD-take 1 values 0 0 (omega arith)) ∙ folded ∙ ap₂ fold same spread)
+      same

@@ -57,14 +57,13 @@ fn difference(table: u32, right: u32, index: u32) -> u64
     }
 }
 
-// Step 1 at each of the first `used` indices. At the first of them every pin is right.
-fn start_values(table: u32, indices: [u32; 16], used: usize) -> [u64; 16]
-    requires { ⌜ (0 < used) × (used ≤ 16) ⌝ }
+// Step 1 at each of the first `used` indices.
+fn start_values(table: u32, right: u32, indices: [u32; 16], used: usize) -> [u64; 16]
+    requires { ⌜ used ≤ 16 ⌝ }
     requires { ⌜ ((i : ℕ) → i < used → getD indices i 0 ≤ 15) ⌝ }
-    ensures { λ r. ⌜ take used r ≡ map (differs unitsInOne table (table / 2 ^ getD indices 0 0 % 2)) (take used indices) ⌝ }
+    ensures { λ r. ⌜ take used r ≡ map (differs unitsInOne table right) (take used indices) ⌝ }
     ensures { λ r. ⌜ ((i : ℕ) → i < used → getD r i 0 ≤ unitsInOne) ⌝ }
 {
-    let right = answer_at(table, indices[0]);
     let mut values = [0u64; 16];
     let mut i = 0;
     while i < used {
@@ -110,13 +109,13 @@ pub fn output_step(reliability: u64, failure: u64) -> u64
     rounding::blended(reliability, 0, failure)
 }
 
-// A gate's word, 2 × failure + right value: the first index is where every pin is right, the first value the last of the fold.
-fn word_of(table: u32, indices: [u32; 16], values: [u64; 16], flip: u32) -> u32
-    requires { ⌜ (getD indices 0 0 ≤ 15) × (getD values 0 0 ≤ unitsInOne) × (flip ≤ unitsInOne) ⌝ }
-    ensures { λ r. ⌜ r ≡ 2 * gateStep unitsInOne (getD values 0 0) flip + table / 2 ^ getD indices 0 0 % 2 ⌝ }
+// A gate's word, 2 × failure + right value, from the last value of the fold, the flip and the right answer.
+fn word_of(last: u64, flip: u32, right: u32) -> u32
+    requires { ⌜ (last ≤ unitsInOne) × (flip ≤ unitsInOne) × (right ≤ 1) ⌝ }
+    ensures { λ r. ⌜ r ≡ 2 * gateStep unitsInOne last flip + right ⌝ }
 {
-    let failure = gate_step(values[0], flip as u64);
-    2 * (failure as u32) + answer_at(table, indices[0])
+    let failure = gate_step(last, flip as u64);
+    2 * (failure as u32) + right
 }
 
 // A gate's word where no pin can fail: the right answer, and the flip for its failure.
@@ -124,10 +123,10 @@ pub fn word_none(table: u32, start: u32, flip: u32) -> u32
     requires { ⌜ (start ≤ 15) × (flip ≤ unitsInOne) ⌝ }
     ensures { λ r. ⌜ r ≡ pinsWord unitsInOne table start [] flip ⌝ }
 {
-    word_of(table, [start; 16], [0; 16], flip)
+    word_of(0, flip, answer_at(table, start))
 }
 
-// A gate's word where the first one, two, three and four pins of the arrays may fail.
+// A gate's word where the first one, two, three and four pins of the arrays may fail. At the first index every pin is right.
 pub fn word_one(table: u32, start: u32, words: [u32; 4], bits: [u32; 4], flip: u32) -> u32
     requires { ⌜ (start + room (firstPins 1 words bits) ≤ 15) × (flip ≤ unitsInOne) ⌝ }
     requires { ⌜ ((i : ℕ) → i < 1 → failureOf (getD words i 0) ≤ unitsInOne) ⌝ }
@@ -136,9 +135,10 @@ pub fn word_one(table: u32, start: u32, words: [u32; 4], bits: [u32; 4], flip: u
     let words = &words;
     let bits = &bits;
     let at = spread_pin([start; 16], 1, words, bits, 0);
-    let values = start_values(table, at, 2);
+    let right = answer_at(table, at[0]);
+    let values = start_values(table, right, at, 2);
     let values = fold_step(values, 1, words, 0);
-    word_of(table, at, values, flip)
+    word_of(values[0], flip, right)
 }
 
 pub fn word_two(table: u32, start: u32, words: [u32; 4], bits: [u32; 4], flip: u32) -> u32
@@ -150,10 +150,11 @@ pub fn word_two(table: u32, start: u32, words: [u32; 4], bits: [u32; 4], flip: u
     let bits = &bits;
     let at = spread_pin([start; 16], 1, words, bits, 1);
     let at = spread_pin(at, 2, words, bits, 0);
-    let values = start_values(table, at, 4);
+    let right = answer_at(table, at[0]);
+    let values = start_values(table, right, at, 4);
     let values = fold_step(values, 2, words, 0);
     let values = fold_step(values, 1, words, 1);
-    word_of(table, at, values, flip)
+    word_of(values[0], flip, right)
 }
 
 pub fn word_three(table: u32, start: u32, words: [u32; 4], bits: [u32; 4], flip: u32) -> u32
@@ -166,11 +167,12 @@ pub fn word_three(table: u32, start: u32, words: [u32; 4], bits: [u32; 4], flip:
     let at = spread_pin([start; 16], 1, words, bits, 2);
     let at = spread_pin(at, 2, words, bits, 1);
     let at = spread_pin(at, 4, words, bits, 0);
-    let values = start_values(table, at, 8);
+    let right = answer_at(table, at[0]);
+    let values = start_values(table, right, at, 8);
     let values = fold_step(values, 4, words, 0);
     let values = fold_step(values, 2, words, 1);
     let values = fold_step(values, 1, words, 2);
-    word_of(table, at, values, flip)
+    word_of(values[0], flip, right)
 }
 
 pub fn word_four(table: u32, start: u32, words: [u32; 4], bits: [u32; 4], flip: u32) -> u32
@@ -184,12 +186,13 @@ pub fn word_four(table: u32, start: u32, words: [u32; 4], bits: [u32; 4], flip: 
     let at = spread_pin(at, 2, words, bits, 2);
     let at = spread_pin(at, 4, words, bits, 1);
     let at = spread_pin(at, 8, words, bits, 0);
-    let values = start_values(table, at, 16);
+    let right = answer_at(table, at[0]);
+    let values = start_values(table, right, at, 16);
     let values = fold_step(values, 8, words, 0);
     let values = fold_step(values, 4, words, 1);
     let values = fold_step(values, 2, words, 2);
     let values = fold_step(values, 1, words, 3);
-    word_of(table, at, values, flip)
+    word_of(values[0], flip, right)
 }
 
 // A gate's word where the first `count` pins may fail, with these words and bits.

@@ -13,10 +13,11 @@ use Rattle.figure.proofs.word_none.Tie as tie
 returns : tie.Need-returns
 unfolding pinsWord lastValue
 returns c =
-    let s = c .before .args in
+    let s = c .before .before .args in
     let right = s .table / 2 ^ s .start % 2 in
     c .word-of .ensures
+    ∙ ap (λ (r : ℕ). 2 * gateStep unitsInOne 0 (s .flip) + r) (c .before .answer-at .ensures)
     ∙ ap (λ (b : Bool). 2 * gateStep unitsInOne (cond b 0 unitsInOne) (s .flip) + right) (sym (eq-eqb right right refl))
 
 pub word-none-spec : {M : Type 1} → statement M
-word-none-spec = tie.close (tie.spec (λ c κs. search needs) returns)
+word-none-spec = tie.close (tie.spec (λ c κs. search needs) (λ c κs. search needs) returns)

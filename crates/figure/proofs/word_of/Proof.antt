@@ -10,7 +10,7 @@ use Rattle.figure.proofs.word_of.Tie as tie
 failure-fits : (c : tie.After-gate-step) → c .gate-step .result ≤ unitsInOne
 failure-fits c =
     let fits = c .before .pre in
-    rw (c .gate-step .ensures) (gate-step-at-most unitsInOne (omega arith) _ _ (fits .1) (fits .2))
+    rw (c .gate-step .ensures) (gate-step-at-most unitsInOne (omega arith) _ _ (fits .0) (fits .1))
 
 cast-result : tie.Need-cast-result
 cast-result c = omega (arith, failure-fits c)
@@ -19,17 +19,7 @@ mul-result : tie.Need-mul-result
 mul-result c = omega (arith, failure-fits c)
 
 add-result : tie.Need-add-result
-add-result c = omega (arith, failure-fits (c .before))
+add-result c = omega (arith, failure-fits c)
 
 pub word-of-spec : {M : Type 1} → statement M
-word-of-spec =
-    tie.close
-    (tie.spec
-    (λ c. search needs)
-    (λ c κs. search needs)
-    cast-result
-    mul-result
-    (λ c. search needs)
-    (λ c κs. search needs)
-    add-result
-    (λ c. search needs))
+word-of-spec = tie.close (tie.spec (λ c κs. search needs) cast-result mul-result add-result (λ c. search needs))

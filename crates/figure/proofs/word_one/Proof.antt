@@ -26,29 +26,32 @@ spread-pin-requires c κs =
     let s = c .before .before in
     (omega arith, spread-room (s .args .start) (pins s 1) 1 (replicate 16 (s .args .start)) refl _ (omega arith))
 
+answer-at-requires : tie.Need-answer-at-requires
+answer-at-requires c κs =
+    let s = entry c in
+    spread-small (s .args .start) (pins s 0) 2 (c .spread-pin .result) (spread c) (omega arith) 0 (omega arith)
+
 start-values-requires : tie.Need-start-values-requires
 start-values-requires c κs =
-    let s = entry c in
-    (omega arith, spread-small (s .args .start) (pins s 0) 2 (c .spread-pin .result) (spread c) (omega arith))
+    let d = c .before in
+    let s = entry d in
+    (omega arith, spread-small (s .args .start) (pins s 0) 2 (d .spread-pin .result) (spread d) (omega arith))
 
 fold-step-requires : tie.Need-fold-step-requires
-fold-step-requires c κs = search (needs, entry (c .before) .pre .1)
+fold-step-requires c κs = search (needs, entry (c .before .before) .pre .1)
 
 word-of-requires : tie.Need-word-of-requires
 word-of-requires c κs =
     let d = c .before .before in
-    let s = entry d in (
-      spread-small (s .args .start) (pins s 0) 2 (d .spread-pin .result) (spread d) (omega arith) 0 (omega arith),
-      c .fold-step .ensures .1 0 (omega arith),
-      s .pre .0 .1,
-    )
+    (c .fold-step .ensures .1 0 (omega arith), entry (d .before) .pre .0 .1, omega (arith, d .answer-at .ensures))
 
 returns : tie.Need-returns
 returns c =
     let d = c .before .before .before in
-    let s = entry d in
+    let s = entry (d .before) in
     c .word-of .ensures
-    ∙ word-made (s .args .start) (pins s 0) 2 (d .spread-pin .result) (spread d) (s .args .table) _ (c .before .fold-step .result) (omega arith)
+    ∙ word-made (s .args .start) (pins s 0) 2 (d .before .spread-pin .result) (spread (d .before)) (s .args .table) (d .answer-at .result) _
+    (c .before .fold-step .result) (omega arith) (d .answer-at .ensures)
     (rw (c .before .fold-step .ensures .0, c .before .before .start-values .ensures .0))
 
 pub word-one-spec : {M : Type 1} → statement M
@@ -56,7 +59,10 @@ word-one-spec =
     tie.close
     (tie.spec
     spread-pin-requires
+    (λ c. search needs)
+    answer-at-requires
     start-values-requires
     fold-step-requires
+    (λ c. search needs)
     word-of-requires
     returns)

@@ -41,41 +41,39 @@ spread-pin-requires-3 c κs =
           (omega arith),
     )
 
+answer-at-requires : tie.Need-answer-at-requires
+answer-at-requires c κs =
+    let s = entry c in
+    spread-small (s .args .start) (pins s 0) 8 (c .spread-pin3 .result) (spread c) (omega arith) 0 (omega arith)
+
 start-values-requires : tie.Need-start-values-requires
 start-values-requires c κs =
-    let s = entry c in
-    (omega arith, spread-small (s .args .start) (pins s 0) 8 (c .spread-pin3 .result) (spread c) (omega arith))
+    let d = c .before in
+    let s = entry d in
+    (omega arith, spread-small (s .args .start) (pins s 0) 8 (d .spread-pin3 .result) (spread d) (omega arith))
 
 fold-step-requires : tie.Need-fold-step-requires
-fold-step-requires c κs = search (needs, entry (c .before) .pre .1)
+fold-step-requires c κs = search (needs, entry (c .before .before) .pre .1)
 
 fold-step-requires-2 : tie.Need-fold-step-requires-2
-fold-step-requires-2 c κs = search (needs, entry (c .before .before) .pre .1)
+fold-step-requires-2 c κs = search (needs, entry (c .before .before .before) .pre .1)
 
 fold-step-requires-3 : tie.Need-fold-step-requires-3
-fold-step-requires-3 c κs = search (needs, entry (c .before .before .before) .pre .1)
+fold-step-requires-3 c κs = search (needs, entry (c .before .before .before .before) .pre .1)
 
 word-of-requires : tie.Need-word-of-requires
 word-of-requires c κs =
     let d = c .before .before .before .before in
-    let s = entry d in (
-      spread-small (s .args .start) (pins s 0) 8 (d .spread-pin3 .result) (spread d) (omega arith) 0 (omega arith),
-      c .fold-step3 .ensures .1 0 (omega arith),
-      s .pre .0 .1,
-    )
+    (c .fold-step3 .ensures .1 0 (omega arith), entry (d .before) .pre .0 .1, omega (arith, d .answer-at .ensures))
 
 returns : tie.Need-returns
 returns c =
     let d = c .before .before .before .before .before in
-    let s = entry d in
+    let s = entry (d .before) in
     c .word-of .ensures
-    ∙ word-made (s .args .start) (pins s 0) 8 (d .spread-pin3 .result) (spread d) (s .args .table) _ (c .before .fold-step3 .result) (omega arith)
-    (rw (
-      c .before .fold-step3 .ensures .0,
-      c .before .before .fold-step2 .ensures .0,
-      c .before .before .before .fold-step .ensures .0,
-      c .before .before .before .before .start-values .ensures .0,
-    ))
+    ∙ word-made (s .args .start) (pins s 0) 8 (d .before .spread-pin3 .result) (spread (d .before)) (s .args .table) (d .answer-at .result) _
+    (c .before .fold-step3 .result) (omega arith) (d .answer-at .ensures)
+    (rw (c .before .fold-step3 .ensures .0, c .before .before .fold-step2 .ensures .0, c .before .before .before .fold-step .ensures .0, c .before .before .before .before .start-values .ensures .0))
 
 pub word-three-spec : {M : Type 1} → statement M
 word-three-spec =
@@ -84,9 +82,12 @@ word-three-spec =
     spread-pin-requires
     spread-pin-requires-2
     spread-pin-requires-3
+    (λ c. search needs)
+    answer-at-requires
     start-values-requires
     fold-step-requires
     fold-step-requires-2
     fold-step-requires-3
+    (λ c. search needs)
     word-of-requires
     returns)

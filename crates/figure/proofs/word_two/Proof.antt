@@ -31,32 +31,35 @@ spread-pin-requires-2 c κs =
     let s = c .before .before .before in
     (omega arith, spread-room (s .args .start) (pins s 1) 2 (c .spread-pin .result) (c .spread-pin .ensures) _ (omega arith))
 
+answer-at-requires : tie.Need-answer-at-requires
+answer-at-requires c κs =
+    let s = entry c in
+    spread-small (s .args .start) (pins s 0) 4 (c .spread-pin2 .result) (spread c) (omega arith) 0 (omega arith)
+
 start-values-requires : tie.Need-start-values-requires
 start-values-requires c κs =
-    let s = entry c in
-    (omega arith, spread-small (s .args .start) (pins s 0) 4 (c .spread-pin2 .result) (spread c) (omega arith))
+    let d = c .before in
+    let s = entry d in
+    (omega arith, spread-small (s .args .start) (pins s 0) 4 (d .spread-pin2 .result) (spread d) (omega arith))
 
 fold-step-requires : tie.Need-fold-step-requires
-fold-step-requires c κs = search (needs, entry (c .before) .pre .1)
+fold-step-requires c κs = search (needs, entry (c .before .before) .pre .1)
 
 fold-step-requires-2 : tie.Need-fold-step-requires-2
-fold-step-requires-2 c κs = search (needs, entry (c .before .before) .pre .1)
+fold-step-requires-2 c κs = search (needs, entry (c .before .before .before) .pre .1)
 
 word-of-requires : tie.Need-word-of-requires
 word-of-requires c κs =
     let d = c .before .before .before in
-    let s = entry d in (
-      spread-small (s .args .start) (pins s 0) 4 (d .spread-pin2 .result) (spread d) (omega arith) 0 (omega arith),
-      c .fold-step2 .ensures .1 0 (omega arith),
-      s .pre .0 .1,
-    )
+    (c .fold-step2 .ensures .1 0 (omega arith), entry (d .before) .pre .0 .1, omega (arith, d .answer-at .ensures))
 
 returns : tie.Need-returns
 returns c =
     let d = c .before .before .before .before in
-    let s = entry d in
+    let s = entry (d .before) in
     c .word-of .ensures
-    ∙ word-made (s .args .start) (pins s 0) 4 (d .spread-pin2 .result) (spread d) (s .args .table) _ (c .before .fold-step2 .result) (omega arith)
+    ∙ word-made (s .args .start) (pins s 0) 4 (d .before .spread-pin2 .result) (spread (d .before)) (s .args .table) (d .answer-at .result) _
+    (c .before .fold-step2 .result) (omega arith) (d .answer-at .ensures)
     (rw (c .before .fold-step2 .ensures .0, c .before .before .fold-step .ensures .0, c .before .before .before .start-values .ensures .0))
 
 pub word-two-spec : {M : Type 1} → statement M
@@ -65,8 +68,11 @@ word-two-spec =
     (tie.spec
     spread-pin-requires
     spread-pin-requires-2
+    (λ c. search needs)
+    answer-at-requires
     start-values-requires
     fold-step-requires
     fold-step-requires-2
+    (λ c. search needs)
     word-of-requires
     returns)
