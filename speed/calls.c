@@ -1,5 +1,5 @@
 /* Times the calls of the proved library beside the same steps written in C, on the same netlists in one run: open, toggle_input, set_flip and average
-   on forests of 2-, 3- and 4-pin gates, a chain, and a forest whose gates are mostly dead; 12 inputs, 1,024 gates. Build and run: bench/run-calls.
+   on forests of 2-, 3- and 4-pin gates, a chain, and a forest whose gates are mostly dead; 12 inputs, 1,024 gates. Build and run: speed/run-calls.
    The C steps make the same checks as the library: refusals 1 to 9 and 13 at opening, 13 and 14 on every other call. */
 #include <math.h>
 #include <stdint.h>

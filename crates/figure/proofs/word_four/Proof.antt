@@ -91,7 +91,13 @@ returns c =
     c .word-of .ensures
     ∙ word-made (s .args .start) (pins s 0) 16 (d .before .spread-pin4 .result) (spread (d .before)) (s .args .table) (d .answer-at .result) _
     (c .before .fold-step4 .result) (omega arith) (d .answer-at .ensures)
-    (rw (c .before .fold-step4 .ensures .0, c .before .before .fold-step3 .ensures .0, c .before .before .before .fold-step2 .ensures .0, c .before .before .before .before .fold-step .ensures .0, c .before .before .before .before .before .start-values .ensures .0))
+    (rw (
+      c .before .fold-step4 .ensures .0,
+      c .before .before .fold-step3 .ensures .0,
+      c .before .before .before .fold-step2 .ensures .0,
+      c .before .before .before .before .fold-step .ensures .0,
+      c .before .before .before .before .before .start-values .ensures .0,
+    ))
 
 pub word-four-spec : {M : Type 1} → statement M
 word-four-spec =
