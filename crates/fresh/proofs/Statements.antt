@@ -5,6 +5,7 @@ use mathlib.Core.Path.{sym, ap, _∙_}
 use native.Mathlib.Omega.{arith}
 use Rattle.figure.specs.Figure.{rightOf, failureOf}
 use Rattle.area.specs.Layout.{inputs}
+use Rattle.area.proofs.Net.{gate-count}
 use Rattle.fresh.specs.Statements.{FreshHoldsNetlist, ToggleWorksDependents, SetWorksDependents}
 use Rattle.fresh.proofs.Sources.{source-gate}
 use Rattle.fresh.proofs.Bridge.{sources-hold, reliability-holds}
@@ -15,8 +16,8 @@ fresh-holds-netlist d ws kinds chances sound fresh converted =
     let net = sound .workable .net in
     let hold = sources-hold d ws kinds chances net fresh converted in
     record {
-      right = λ j l. sym (ap rightOf (source-gate ws j)) ∙ hold (inputs ws + j) (omega arith) .right;
-      failure = λ j l. sym (ap failureOf (source-gate ws j)) ∙ hold (inputs ws + j) (omega arith) .failure;
+      right = λ j l. sym (ap rightOf (source-gate ws j)) ∙ hold (inputs ws + j) (omega (arith, gate-count ws kinds chances)) .right;
+      failure = λ j l. sym (ap failureOf (source-gate ws j)) ∙ hold (inputs ws + j) (omega (arith, gate-count ws kinds chances)) .failure;
       product = reliability-holds d ws kinds chances net fresh converted;
     }
 

@@ -5,7 +5,7 @@ use mathlib.Core.Bool.{false}
 use mathlib.Core.List.{List}
 use mathlib.Core.Logic.{_⊎_}
 use mathlib.Core.Path.{_≡_}
-use lib.ListN.{getD}
+use lib.ListN.{length, getD}
 use Rattle.rounding.specs.Rounding.{unitsInOne}
 use Rattle.figure.specs.Figure.{rightOf, failureOf}
 use Rattle.netlist.specs.Netlist.{Netlist, rightValues}
@@ -21,8 +21,8 @@ use Rattle.fresh.specs.Fresh.{Fresh, Converted}
 
 -- each gate's right value and failure, and word 4, are the netlist's figures for pattern q; chances are whole numbers of 1 / d
 pub record FiguresHeld (d : ℕ) (net : Netlist) (q : ℕ) (ws : List ℕ) : Type 0 where
-  pub right : (j : ℕ) → j < gates ws → rightOf (figure ws j) ≡ getD (rightValues net q) (inputs ws + j) false
-  pub failure : (j : ℕ) → j < gates ws → failureOf (figure ws j) ≡ getD (failures unitsInOne d net q) (inputs ws + j) 0
+  pub right : (j : ℕ) → j < length (net .gates) → rightOf (figure ws j) ≡ getD (rightValues net q) (net .inputs + j) false
+  pub failure : (j : ℕ) → j < length (net .gates) → failureOf (figure ws j) ≡ getD (failures unitsInOne d net q) (net .inputs + j) 0
   pub product : reliabilityWord ws ≡ reliability unitsInOne d net q
 
 abbrev pub FreshHoldsNetlist : Type 0
