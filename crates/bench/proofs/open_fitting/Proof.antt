@@ -1,10 +1,10 @@
 -- `bench::open_fitting` meets its contract. Assumes nothing.
 use Prim.Native.Nat.{ℕ, _≤_, _<_}
-use mathlib.Core.List.{_++_}
+use mathlib.Core.List.{List, _++_}
 use mathlib.Core.Path.{_≡_, refl, sym, ap, ap₂, _∙_}
 use native.Mathlib.Omega.{arith}
 use lib.ListN.{length, take, drop}
-use lib.Seq.{length-take-le}
+use lib.Seq.{length-take-le, sets}
 use Rattle.lists.proofs.Parts.{sets-first}
 use Rattle.area.specs.Layout.{gates, outputs, needed}
 use Rattle.work.specs.Work.{workAll}
@@ -14,77 +14,62 @@ use borrow.Author.Needs.{needs}
 use Rattle.bench.proofs.open_fitting.Statement.{statement}
 use Rattle.bench.proofs.open_fitting.Tie as tie
 
+abbrev words : tie.Start → List ℕ
+words s = s .args .words .now
+
+abbrev area : tie.Start → List ℕ
+area s = s .args .area .now
+
+abbrev taken : tie.Start → ℕ
+taken s = needed (gates (words s)) (outputs (words s))
+
+-- the words that the netlist takes, as the program counts them
+module _ (c : tie.After-needed) where
+  abbrev start : tie.Start
+  start = c .before .before .before .before .before
+
+  counted : c .needed .result ≡ taken start
+  counted = c .needed .ensures ∙ ap₂ needed (c .before .before .gates .ensures) (c .before .outputs .ensures)
+
+  cut : length (take (c .needed .result) (words start)) ≡ c .needed .result
+  cut = length-take-le (c .needed .result) (words start) (omega (arith, counted, start .pre .0 .long))
+
+-- the lent words once the netlist's words are stored before the others
+stored : (c : tie.After-needed) → taken (start c) ≤ length (area (start c))
+    → sets (area (start c)) 0 (take (c .needed .result) (words (start c))) ≡ take (taken (start c)) (words (start c)) ++ drop (taken (start c)) (area (start c))
+stored c room =
+    sets-first (take (c .needed .result) (words (start c))) (area (start c)) (c .needed .result) (cut c) (omega (arith, counted c))
+    ∙ ap (λ (k : ℕ). take k (words (start c)) ++ drop k (area (start c))) (counted c)
+
 returns : tie.Need-returns
 returns c =
-    let at-gates = c .before .before .before .gates in
-    let s = c .before .before .before .before .before .before in
-    let ws = s .args .words .now in
-    let at-needed = c .before .needed in
-    let count : at-needed .result ≡ needed (gates ws) (outputs ws)
-    = at-needed .ensures ∙ ap₂ needed (at-gates .ensures) (c .before .before .outputs .ensures) in
-    let short : length (s .args .area .now) < needed (gates ws) (outputs ws) = omega arith in
-    let e = short-room (gates ws) (outputs ws) (length (s .args .area .now)) short in
+    let s = start (c .before) in
+    let short : length (area s) < taken s = omega (arith, counted (c .before)) in
+    let e = short-room (gates (words s)) (outputs (words s)) (length (area s)) short in
     (rw e refl, rw e refl)
 
 slice-aggregate-store : tie.Need-slice-aggregate-store
-slice-aggregate-store c =
-    let at-gates = c .before .before .before .before .before .gates in
-    let at-outputs = c .before .before .before .before .outputs in
-    let at-needed = c .before .before .before .needed in
-    let s = c .before .before .before .before .before .before .before .before in
-    let ws = s .args .words .now in
-    let at-needed = at-needed in
-    let count : at-needed .result ≡ needed (gates ws) (outputs ws)
-    = at-needed .ensures ∙ ap₂ needed (at-gates .ensures) (at-outputs .ensures) in
-    sym (length-take-le _ ws (omega (arith, s .pre .0 .long)))
+slice-aggregate-store c = sym (cut (c .before .before .before))
 
 store-requires : tie.Need-store-requires
-store-requires c κs =
-    let at-gates = c .before .before .before .before .before .gates in
-    let at-outputs = c .before .before .before .before .outputs in
-    let at-needed = c .before .before .before .needed in
-    let s = c .before .before .before .before .before .before .before .before in
-    let ws = s .args .words .now in
-    let at-needed = at-needed in
-    let count : at-needed .result ≡ needed (gates ws) (outputs ws)
-    = at-needed .ensures ∙ ap₂ needed (at-gates .ensures) (at-outputs .ensures) in
-    omega (arith, length-take-le (at-needed .result) ws (omega (arith, s .pre .0 .long)))
+store-requires c κs = omega (arith, cut (c .before .before .before))
 
 work-all-requires : tie.Need-work-all-requires
 work-all-requires c κs =
-    let at-gates = c .before .before .before .before .before .before .before .before .before .gates in
-    let at-outputs = c .before .before .before .before .before .before .before .before .outputs in
-    let at-needed = c .before .before .before .before .before .before .before .needed in
-    let at-store = c .before .before .before .store in
-    let s = c .before .before .before .before .before .before .before .before .before .before .before .before in
-    let ws = s .args .words .now in
-    let at-needed = at-needed in
-    let count : at-needed .result ≡ needed (gates ws) (outputs ws)
-    = at-needed .ensures ∙ ap₂ needed (at-gates .ensures) (at-outputs .ensures) in
-    let size = length-take-le (at-needed .result) ws (omega (arith, s .pre .0 .long)) in
-    let stored = at-store .ensures ∙ sets-first (take (at-needed .result) ws) (s .args .area .now) (at-needed .result) size (omega arith) in
-    rw (stored, count) (s .pre .1 (drop (needed (gates ws) (outputs ws)) (s .args .area .now)))
+    let d = c .before .before .before .before .before .before .before in
+    let s = start d in
+    let whole = c .before .before .before .store .ensures ∙ stored d (omega (arith, counted d)) in
+    rw whole (s .pre .1 (drop (taken s) (area s)))
 
 returns-2 : tie.Need-returns-2
 unfolding loadedWords
 returns-2 c =
-    let at-gates = c .before .before .before .before .before .before .before .before .before .before .before .before .gates in
-    let at-outputs = c .before .before .before .before .before .before .before .before .before .before .before .outputs in
-    let at-needed = c .before .before .before .before .before .before .before .before .before .before .needed in
-    let at-store = c .before .before .before .before .before .before .store in
-    let s = c .before .before .before .before .before .before .before .before .before .before .before .before .before .before .before in
-    let ws = s .args .words .now in
-    let at-needed = at-needed in
-    let count : at-needed .result ≡ needed (gates ws) (outputs ws)
-    = at-needed .ensures ∙ ap₂ needed (at-gates .ensures) (at-outputs .ensures) in
-    let room : needed (gates ws) (outputs ws) ≤ length (s .args .area .now) = omega arith in
-    let e = fine-room (gates ws) (outputs ws) (length (s .args .area .now)) room in
-    let size = length-take-le (at-needed .result) ws (omega (arith, s .pre .0 .long)) in
-    let stored =
-    at-store .ensures
-    ∙ sets-first (take (at-needed .result) ws) (s .args .area .now) (at-needed .result) size (omega arith)
-    ∙ ap (λ (k : ℕ). take k ws ++ drop k (s .args .area .now)) count in
-    (rw e refl, rw e (c .before .before .work-all .ensures ∙ ap workAll stored))
+    let d = c .before .before .before .before .before .before .before .before .before .before in
+    let s = start d in
+    let room : taken s ≤ length (area s) = omega (arith, counted d) in
+    let e = fine-room (gates (words s)) (outputs (words s)) (length (area s)) room in
+    let whole = c .before .before .before .before .before .before .store .ensures ∙ stored d room in
+    (rw e refl, rw e (c .before .before .work-all .ensures ∙ ap workAll whole))
 
 pub open-fitting-spec : {M : Type 1} → statement M
 open-fitting-spec =
