@@ -33,9 +33,9 @@ pub const LARGEST_WEIGHT: u32 = 1_048_575;
 // The head.
 pub const HEAD_WORDS: usize = 8;
 
-const INPUTS: usize = 0;
+pub const INPUTS: usize = 0;
 
-const GATES: usize = 1;
+pub const GATES: usize = 1;
 
 const OUTPUTS: usize = 2;
 

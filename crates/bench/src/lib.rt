@@ -1,13 +1,13 @@
 // The six calls of the bench. Each judges its input first: a refused call changes no word.
 ghost use mathlib.Core.Path.{_≡_};
-ghost use Prim.Native.Nat.{ℕ, _/_, _%_, _≤_};
+ghost use Prim.Native.Nat.{ℕ, _/_, _%_, _≤_, _<_};
 ghost use mathlib.Core.List.{List, [], _++_};
-ghost use lib.ListN.{length, take, drop};
-ghost use Rattle.refusal.specs.Judgement.{unlessRefused};
+ghost use lib.ListN.{length, getD, take, drop};
+ghost use Rattle.refusal.specs.Judgement.{otherwise, unlessRefused};
 ghost use Rattle.netlist.specs.Live.{liveGates};
 ghost use Rattle.area.specs.Net.{netOf};
-ghost use Rattle.area.specs.Layout.{gates, outputs, needed, pattern, reliabilityWord, figure};
-ghost use Rattle.area.specs.Rules.{NetSound, Workable};
+ghost use Rattle.area.specs.Layout.{headWords, gates, outputs, needed, pattern, reliabilityWord, figure};
+ghost use Rattle.area.specs.Rules.{areaJudgement, NetSound, Workable};
 ghost use Rattle.calls.specs.Judgements as judged;
 ghost use Rattle.calls.specs.Judgements.{open-image, toggle-input, set-flip, read-netlist, read-gate, take-average, judgement};
 ghost use Rattle.calls.specs.Calls.{openLive, averageOf, left};
@@ -108,22 +108,27 @@ fn judge_named(number: u32, count: usize) -> Judgement
     }
 }
 
+// The area's own refusal, then refusal 10: the number named against the count that a word of the head holds.
+fn judge_counted(area: &[u32], word: usize, named: u32) -> Judgement
+    requires { ⌜ word < headWords ⌝ }
+    ensures { λ r. ⌜ r ≡ otherwise (areaJudgement (now (area .entry))) (judged.named named (getD (now (area .entry)) word 0)) ⌝ }
+{
+    match rules::judge(area) {
+        Judgement::Fine => judge_named(named, area::index(area[word])),
+        Judgement::Refused(number, place) => Judgement::Refused(number, place),
+    }
+}
+
 fn judge_toggle(area: &[u32], input: u32) -> Judgement
     ensures { λ r. ⌜ r ≡ judgement (now (area .entry)) (toggle-input input) ⌝ }
 {
-    match rules::judge(area) {
-        Judgement::Fine => judge_named(input, area::inputs(area)),
-        Judgement::Refused(number, place) => Judgement::Refused(number, place),
-    }
+    judge_counted(area, area::INPUTS, input)
 }
 
 fn judge_gate(area: &[u32], gate: u32) -> Judgement
     ensures { λ r. ⌜ r ≡ judgement (now (area .entry)) (read-gate gate) ⌝ }
 {
-    match rules::judge(area) {
-        Judgement::Fine => judge_named(gate, area::gates(area)),
-        Judgement::Refused(number, place) => Judgement::Refused(number, place),
-    }
+    judge_counted(area, area::GATES, gate)
 }
 
 fn judge_average(area: &[u32], weights: &[u32]) -> Judgement
