@@ -15,6 +15,11 @@ abbrev pub count : ℕ → List ℕ → ℕ
 count x [] = 0
 count x (y ∷ ys) = cond (eqb x y) 1 0 + count x ys
 
+-- at how many entries the test t holds
+abbrev pub countWhere : (ℕ → Bool) → List ℕ → ℕ
+countWhere t [] = 0
+countWhere t (x ∷ xs) = cond (t x) 1 0 + countWhere t xs
+
 -- the lists of the places 0 to k - 1 after each other
 abbrev pub joined : (ℕ → List ℕ) → ℕ → List ℕ
 joined f zero = []

@@ -3,4 +3,5 @@ pub mod WellFormed
 pub mod Exact
 pub mod Figures
 pub mod Live
+pub mod Seen
 pub mod Average
