@@ -1,0 +1,110 @@
+-- Words that hold values: from the inputs on gate by gate. Assumes nothing.
+use Prim.Native.Nat.{ℕ, zero, suc, _+_, _/_, _^_, _≤_, _<_}
+use mathlib.Core.Bool.{Bool, true, false}
+use mathlib.Core.List.{List, [], _∷_, map}
+use mathlib.Core.Logic.{⊎-elim}
+use mathlib.Core.Path.{_≡_, refl, sym, ap, ap₂, subst, _∙_}
+use native.Mathlib.Nat.{eq-or-lt-of-le}
+use native.Mathlib.Omega.{arith}
+use borrow.Author.Tests.{ltb-true, ltb-false}
+use lib.Dec.{ltb}
+use lib.ListN.{length, getD, set, take, length-set}
+use lib.Seq.{getD-set-same, getD-set-other}
+use Rattle.lists.specs.Lists.{Below}
+use Rattle.lists.proofs.Every.{map-same}
+use Rattle.figure.specs.Figure.{isOdd, answer}
+use Rattle.netlist.specs.Netlist.{Gate, Netlist, gateAt, pinValues, rightValues}
+use Rattle.netlist.proofs.Values.{right-input, right-gate}
+use Rattle.area.specs.Layout.{mostPins, mostSources, inputs, gates, pinCount, table, pin, pins, usedPins}
+use Rattle.area.specs.Rules.{NetSound}
+use Rattle.area.specs.Net.{netOf}
+use Rattle.area.proofs.Net.{gate-at, gate-count, sound-pins}
+use Rattle.area.proofs.Words.{used-below, few-sources}
+use Rattle.signals.specs.Signals.{laneCount, lane, InEachLane, pinLanes, InputWords, rightIn, WordsHold}
+
+-- every pin, used or not, is a source
+pub pin-source : (ws : List ℕ) → NetSound ws → (j : ℕ) → j < gates ws → (i : ℕ) → getD (pins ws j) i 0 < mostSources
+pin-source ws sound j l i = go (ltb i (pinCount ws j)) refl
+  where
+    go : (b : Bool) → ltb i (pinCount ws j) ≡ b → getD (pins ws j) i 0 < mostSources
+    go true e = omega (arith, sound .gate j l .pins-below i (ltb-true i (pinCount ws j) e), few-sources ws sound)
+    go false e = omega (arith, sound .gate j l .unused-zero i (ltb-false i (pinCount ws j) e))
+
+-- ---- the words that pins read have in each lane the values that the pins read
+
+map-take : {A B : Type 0} (f : A → B) (k : ℕ) (xs : List A) → map f (take k xs) ≡ take k (map f xs)
+map-take f zero xs = refl
+map-take f (suc k) [] = refl
+map-take f (suc k) (x ∷ xs) = ap (λ (ys : List _). f x ∷ ys) (map-take f k xs)
+
+map-map : (f : ℕ → Bool) (g : ℕ → ℕ) (xs : List ℕ) → map f (map g xs) ≡ map (λ x. f (g x)) xs
+map-map f g [] = refl
+map-map f g (x ∷ xs) = ap (λ (ys : List Bool). f (g x) ∷ ys) (map-map f g xs)
+
+-- a gate's used pins, each with the word that F has for it
+pub pins-lanes : (l : ℕ) (F : ℕ → ℕ) (ws : List ℕ) (j : ℕ) → pinLanes l (pinCount ws j) (map F (pins ws j)) ≡ map (λ p. lane l (F p)) (usedPins ws j)
+pins-lanes l F ws j = ap (map (lane l)) (sym (map-take F (pinCount ws j) (pins ws j))) ∙ map-map (lane l) F (usedPins ws j)
+
+pub pins-held : (k : ℕ) (vs : List Bool) (F : ℕ → ℕ) (l : ℕ) (ws : List ℕ) (j : ℕ) → Below k (usedPins ws j)
+    → ((s : ℕ) → s < k → lane l (F s) ≡ getD vs s false)
+    → pinLanes l (pinCount ws j) (map F (pins ws j)) ≡ pinValues vs (usedPins ws j)
+pins-held k vs F l ws j below held =
+    pins-lanes l F ws j ∙ map-same (λ p. lane l (F p)) (λ p. getD vs p false) (usedPins ws j) (λ i h. held (getD (usedPins ws j) i 0) (below i h))
+
+-- ---- one source more
+
+pub hold-more : (k : ℕ) (values : ℕ → List Bool) (words : List ℕ) (word : ℕ) → WordsHold k values words → k < mostSources
+    → InEachLane word (λ l. getD (values l) k false) → WordsHold (k + 1) values (set words k word)
+hold-more k values words word h inside here =
+    record {
+      long = length-set words k word ∙ h .long;
+      held =
+          λ l s less below.
+          ⊎-elim
+          (λ e. ap (λ (t : ℕ). lane l (getD (set words k word) t 0)) e
+          ∙ ap (lane l) (getD-set-same words k word 0 (omega (arith, h .long)))
+          ∙ here l less
+          ∙ ap (λ (t : ℕ). getD (values l) t false) (sym e))
+          (λ before. ap (lane l) (getD-set-other words k s word 0 (λ e. omega arith)) ∙ h .held l s less before)
+          (eq-or-lt-of-le {n = s} {m = k} (omega arith));
+    }
+
+pub input-more : (n : ℕ) (patterns words : List ℕ) (word : ℕ) → InputWords n patterns words → n < mostSources
+    → ((l : ℕ) → lane l word ≡ isOdd (getD patterns l 0 / 2 ^ n)) → InputWords (n + 1) patterns (set words n word)
+input-more n patterns words word h inside here =
+    record {
+      long = length-set words n word ∙ h .long;
+      input =
+          λ l i below.
+          ⊎-elim
+          (λ e. ap (λ (t : ℕ). lane l (getD (set words n word) t 0)) e
+          ∙ ap (lane l) (getD-set-same words n word 0 (omega (arith, h .long)))
+          ∙ here l
+          ∙ ap (λ (t : ℕ). isOdd (getD patterns l 0 / 2 ^ t)) (sym e))
+          (λ before. ap (lane l) (getD-set-other words n i word 0 (λ e. omega arith)) ∙ h .input l i before)
+          (eq-or-lt-of-le {n = i} {m = n} (omega arith));
+    }
+
+-- ---- the right values
+
+module _ (ws patterns : List ℕ) (sound : NetSound ws) where
+  pub first-held : (words : List ℕ) → InputWords (inputs ws) patterns words → WordsHold (inputs ws) (rightIn (netOf ws [] []) patterns) words
+  first-held words h =
+      record {
+        long = h .long;
+        held = λ l s less below. h .input l s below ∙ sym (right-input (netOf ws [] []) (sound-pins ws [] [] sound) (getD patterns l 0) s below);
+      }
+
+  pub gate-held : (words : List ℕ) (word j : ℕ) → j < gates ws → WordsHold (inputs ws + j) (rightIn (netOf ws [] []) patterns) words
+      → InEachLane word (λ l. answer (table ws j) (pinLanes l (pinCount ws j) (map (λ p. getD words p 0) (pins ws j))))
+      → WordsHold (inputs ws + (j + 1)) (rightIn (netOf ws [] []) patterns) (set words (inputs ws + j) word)
+  gate-held words word j inside h answers =
+      let place : inputs ws + j + 1 ≡ inputs ws + (j + 1) = omega arith in
+      let values : ℕ → List Bool = rightIn (netOf ws [] []) patterns in
+      subst (λ (k : ℕ). WordsHold k values (set words (inputs ws + j) word)) place
+      (hold-more (inputs ws + j) values words word h (omega (arith, few-sources ws sound))
+      (λ l less.
+      answers l less
+      ∙ ap (answer (table ws j)) (pins-held (inputs ws + j) (values l) (λ p. getD words p 0) l ws j (used-below ws sound j inside) (λ s. h .held l s less))
+      ∙ ap (λ (g : Gate). answer (g .table) (pinValues (values l) (g .pins))) (sym (gate-at ws [] [] j inside))
+      ∙ sym (right-gate (netOf ws [] []) (sound-pins ws [] [] sound) (getD patterns l 0) j (omega (arith, gate-count ws [] [])))))
