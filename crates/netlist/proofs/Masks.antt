@@ -1,0 +1,55 @@
+-- Masks gate by gate: what the gates from j on add, and that gate j's mask is settled once the gates after it have had their turn. Assumes nothing.
+use Prim.Native.Nat.{ℕ, zero, suc, _+_, _≤_, _<_}
+use mathlib.Core.Bool.{Bool, true, false, cond}
+use mathlib.Core.List.{List, [], _∷_}
+use mathlib.Core.Path.{_≡_, refl, ap, _∙_}
+use native.Mathlib.Omega.{arith}
+use lib.ListN.{length, drop}
+use lib.Seq.{drop-cons}
+use Rattle.lists.specs.Lists.{count, Below}
+use Rattle.lists.proofs.Every.{AllFrom, all-head, all-tail, below-tail}
+use Rattle.netlist.specs.Netlist.{Gate, Netlist, noGate, gateAt, pinValues, rightValues}
+use Rattle.netlist.specs.Live.{isLive, withGate}
+use Rattle.netlist.specs.WellFormed.{pinsBelow, PinsBelow}
+use Rattle.netlist.specs.Seen.{sensitive, pinsWhere, sensitivePins, maskReadsFrom, maskReads, maskSeen}
+use Rattle.netlist.proofs.Live.{count-later}
+
+-- some of the pins read no later source than all of them
+pub part-below : (b : ℕ) (t : ℕ → Bool) (i : ℕ) (ps : List ℕ) → Below b ps → Below b (pinsWhere t i ps)
+part-below b t i [] below = below
+part-below b t i (p ∷ ps) below = go (t i) (part-below b t (suc i) ps (below-tail b p ps below))
+  where
+    go : (c : Bool) → Below b (pinsWhere t (suc i) ps) → Below b (cond c (p ∷ pinsWhere t (suc i) ps) (pinsWhere t (suc i) ps))
+    go false rest k l = rest k l
+    go true rest zero l = below 0 (omega arith)
+    go true rest (suc k) l = rest k (omega arith)
+
+pub sensitive-below : (s : ℕ) (vs : List Bool) (g : Gate) → pinsBelow s g → Below s (sensitivePins vs g)
+sensitive-below s vs g below = part-below s (sensitive (g .table) (pinValues vs (g .pins))) 0 (g .pins) below
+
+-- the mask reads by gate j and what follows it
+pub mask-from : (net : Netlist) (vs : List Bool) (j : ℕ) → j < length (net .gates)
+    → maskReadsFrom vs (net .outputs) (net .inputs + j) (drop j (net .gates))
+    ≡ withGate
+    (net .inputs + j)
+    (sensitivePins vs (gateAt net j))
+    (maskReadsFrom vs (net .outputs) (suc (net .inputs + j)) (drop (suc j) (net .gates)))
+mask-from net vs j l = ap (maskReadsFrom vs (net .outputs) (net .inputs + j)) (drop-cons (net .gates) j noGate l)
+
+-- gates up to gate j do not read it
+settled : (vs : List Bool) (outputs : List ℕ) (s : ℕ) (gs : List Gate) → AllFrom noGate pinsBelow s gs → (j t : ℕ) → j < length gs → t ≡ s + j
+    → count t (maskReadsFrom vs outputs s gs) ≡ count t (maskReadsFrom vs outputs (suc t) (drop (suc j) gs))
+settled vs outputs s [] below j t l e = absurd (omega arith)
+settled vs outputs s (g ∷ gs) below zero t l e =
+    let here : s ≡ t = omega arith in
+    count-later t s (sensitivePins vs g) (maskReadsFrom vs outputs (suc s) gs) (sensitive-below s vs g (all-head noGate pinsBelow s g gs below)) (omega arith)
+    ∙ ap (λ (k : ℕ). count t (maskReadsFrom vs outputs (suc k) gs)) here
+settled vs outputs s (g ∷ gs) below (suc j) t l e =
+    count-later t s (sensitivePins vs g) (maskReadsFrom vs outputs (suc s) gs) (sensitive-below s vs g (all-head noGate pinsBelow s g gs below)) (omega arith)
+    ∙ settled vs outputs (suc s) gs (all-tail noGate pinsBelow s g gs below) j t (omega arith) (omega arith)
+
+pub mask-settled : (net : Netlist) → PinsBelow net → (q j : ℕ) → j < length (net .gates)
+    → maskSeen net q j
+    ≡ isLive (count (net .inputs + j) (maskReadsFrom (rightValues net q) (net .outputs) (suc (net .inputs + j)) (drop (suc j) (net .gates))))
+unfolding maskSeen maskReads
+mask-settled net below q j l = ap isLive (settled (rightValues net q) (net .outputs) (net .inputs) (net .gates) below j (net .inputs + j) l refl)
