@@ -4,4 +4,5 @@ pub mod Failures
 pub mod Live
 pub mod Flipped
 pub mod Masks
+pub mod Seen
 pub mod Examples
