@@ -4,5 +4,6 @@ pub mod Failures
 pub mod Live
 pub mod Flipped
 pub mod Masks
+pub mod Wrong
 pub mod Seen
 pub mod Examples

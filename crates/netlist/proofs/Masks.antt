@@ -1,4 +1,4 @@
--- Masks gate by gate: what the gates from j on add, and that gate j's mask is settled once the gates after it have had their turn. Assumes nothing.
+-- Masks gate by gate: mask reads are live reads, what gate j adds to those of later gates, and that its mask is settled before its turn. Assumes nothing.
 use Prim.Native.Nat.{ℕ, zero, suc, _+_, _≤_, _<_}
 use mathlib.Core.Bool.{Bool, true, false, cond}
 use mathlib.Core.List.{List, [], _∷_}
@@ -17,7 +17,7 @@ use Rattle.netlist.specs.WellFormed.{pinsBelow, PinsBelow}
 use Rattle.netlist.specs.Seen.{sensitive, pinsWhere, sensitivePins, maskReadsFrom, maskReads, maskSeen}
 use Rattle.netlist.proofs.Live.{ifLive, count-with, count-later}
 
--- a part of the pins holds a test no oftener than all of them
+-- a test holds of a part of the pins no oftener than of all
 pub part-where : (u : ℕ → Bool) (t : ℕ → Bool) (i : ℕ) (ps : List ℕ) → countWhere u (pinsWhere t i ps) ≤ countWhere u ps
 part-where u t i [] = omega arith
 part-where u t i (p ∷ ps) = go (t i) (part-where u t (suc i) ps)
@@ -27,8 +27,8 @@ part-where u t i (p ∷ ps) = go (t i) (part-where u t (suc i) ps)
     go true rest = omega arith
     go false rest = omega arith
 
--- and reads no later source
-pub part-below : (b : ℕ) (t : ℕ → Bool) (i : ℕ) (ps : List ℕ) → Below b ps → Below b (pinsWhere t i ps)
+-- and a part reads no later source
+part-below : (b : ℕ) (t : ℕ → Bool) (i : ℕ) (ps : List ℕ) → Below b ps → Below b (pinsWhere t i ps)
 part-below b t i [] below = below
 part-below b t i (p ∷ ps) below = go (t i) (part-below b t (suc i) ps (below-tail b p ps below))
   where
