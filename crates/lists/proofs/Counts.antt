@@ -1,8 +1,8 @@
--- How often a number stands in a list. It stands there where its count is above 0. Assumes nothing.
-use Prim.Native.Nat.{ℕ, zero, suc, _+_, _≤_, _<_}
+-- How often a number stands in a list, and at how many entries a test holds. A number stands there where its count is above 0. Assumes nothing.
+use Prim.Native.Nat.{ℕ, zero, suc, _+_, _*_, _≤_, _<_}
 use mathlib.Core.Bool.{Bool, true, false, cond}
 use mathlib.Core.List.{List, [], _∷_, _++_}
-use mathlib.Core.Path.{_≡_, refl, sym, ap, subst, _∙_}
+use mathlib.Core.Path.{_≡_, refl, sym, ap, ap₂, subst, _∙_}
 use native.Mathlib.Nat.{zero-add, add-zero}
 use native.Mathlib.Numerals.{add-one}
 use native.Mathlib.Omega.{arith}
@@ -10,7 +10,7 @@ use lib.ListN.{length, getD, set, take}
 use lib.Seq.{take-suc, getD-set-same, getD-set-other}
 use lib.Dec.{eqb}
 use borrow.Author.Tests.{eqb-true, eqb-false, eq-eqb, ne-eqb}
-use Rattle.lists.specs.Lists.{count, Below}
+use Rattle.lists.specs.Lists.{count, countWhere, Below}
 use Rattle.lists.proofs.Every.{below-tail}
 
 -- what one entry adds
@@ -79,3 +79,32 @@ pub count-turn : (old xs rs : List ℕ) (i r : ℕ) → i < length rs → getD r
     → (s : ℕ) → getD (set xs r (getD xs r 0 + 1)) s 0 ≡ getD old s 0 + count s (take (i + 1) rs)
 count-turn old xs rs i r l e m h s =
     rw (add-one i, take-suc rs i 0 l, e) (omega (arith, one-more xs r s m, h s, count-append s (take i rs) (r ∷ [])))
+
+-- ---- at how many entries a test holds
+
+pub count-where : (s : ℕ) (rs : List ℕ) → count s rs ≡ countWhere (eqb s) rs
+count-where s [] = refl
+count-where s (r ∷ rs) = ap (λ (k : ℕ). bit (eqb s r) + k) (count-where s rs)
+
+pub where-append : (t : ℕ → Bool) (xs ys : List ℕ) → countWhere t (xs ++ ys) ≡ countWhere t xs + countWhere t ys
+where-append t [] ys = sym (zero-add (countWhere t ys))
+where-append t (x ∷ xs) ys = omega (arith, where-append t xs ys)
+
+-- tests that agree hold equally often
+pub where-same : (t u : ℕ → Bool) → ((x : ℕ) → t x ≡ u x) → (xs : List ℕ) → countWhere t xs ≡ countWhere u xs
+where-same t u h [] = refl
+where-same t u h (x ∷ xs) = ap₂ (λ (b : Bool) (k : ℕ). bit b + k) (h x) (where-same t u h xs)
+
+pub where-never : (t : ℕ → Bool) → ((x : ℕ) → t x ≡ false) → (xs : List ℕ) → countWhere t xs ≡ 0
+where-never t h [] = refl
+where-never t h (x ∷ xs) = omega (arith, ap bit (h x), where-never t h xs)
+
+-- a test that fails at s, and one that differs from it at most there
+pub where-changed : (t u : ℕ → Bool) (s : ℕ) (b : Bool) → t s ≡ false → ((x : ℕ) → u x ≡ cond (eqb s x) b (t x)) → (xs : List ℕ)
+    → countWhere u xs ≡ countWhere t xs + cond b 1 0 * count s xs
+where-changed t u s b none h [] = omega arith
+where-changed t u s b none h (x ∷ xs) = omega (arith, ap bit (h x), go (eqb s x) refl, where-changed t u s b none h xs)
+  where
+    go : (c : Bool) → eqb s x ≡ c → bit (cond c b (t x)) ≡ bit (t x) + bit b * bit c
+    go true e = omega (arith, ap bit (ap t (sym (eqb-true s x e)) ∙ none))
+    go false e = omega arith

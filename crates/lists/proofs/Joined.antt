@@ -2,7 +2,7 @@
 use Prim.Native.Nat.{ℕ, zero, suc, _+_, _*_, _<_}
 use mathlib.Core.List.{List, [], _∷_, _++_, append-assoc}
 use mathlib.Core.Logic.{⊎-elim}
-use mathlib.Core.Path.{_≡_, refl, sym, ap, _∙_}
+use mathlib.Core.Path.{_≡_, refl, sym, ap, ap₂, _∙_}
 use native.Mathlib.Nat.{not-suc-le-zero, eq-or-lt-of-le, mul-zero, mul-suc}
 use native.Mathlib.Numerals.{add-one}
 use native.Mathlib.Omega.{arith}
@@ -42,6 +42,10 @@ listed-at f (suc k) i l =
     (λ (q : i ≡ k). rw q (getD-at (joined (λ (i : ℕ). f i ∷ []) k) (f k) [] 0 k (length-listed f k)))
     (λ (q : i < k). List·getD-append (joined (λ (i : ℕ). f i ∷ []) k) (f k ∷ []) 0 i (rw (length-listed f k) q) ∙ listed-at f k i q)
     (eq-or-lt-of-le {n = i} {m = k} (omega arith))
+
+pub joined-same : (f g : ℕ → List ℕ) (k : ℕ) → ((i : ℕ) → i < k → f i ≡ g i) → joined f k ≡ joined g k
+joined-same f g zero h = refl
+joined-same f g (suc k) h = ap₂ _++_ (joined-same f g k (λ i l. h i (omega arith))) (h k (omega arith))
 
 -- one place more is stored after those before it
 pub joined-turn : (f : ℕ → List ℕ) (l ws new : List ℕ) (b k p : ℕ) → p ≡ b + length (joined f k) → ws ≡ sets l b (joined f k) → new ≡ sets ws p (f k)

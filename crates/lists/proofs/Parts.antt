@@ -1,11 +1,16 @@
 -- Parts of lists, entry by entry: read, stored and copied. Assumes nothing.
 use Prim.Native.Nat.{ℕ, zero, suc, _+_, _≤_, _<_}
+use mathlib.Core.Bool.{Bool, true, false, cond}
 use mathlib.Core.List.{List, [], _∷_, _++_}
+use mathlib.Core.Logic.{by-cases}
 use mathlib.Core.Path.{_≡_, refl, sym, ap, _∙_}
+use native.Mathlib.Decide.{decLt}
 use native.Mathlib.Numerals.{add-one}
 use native.Mathlib.Omega.{arith}
-use lib.ListN.{length, getD, take, drop, set, replicate, length-take, length-drop}
-use lib.Seq.{sets-eq, sets, take-suc, length-take-le, getD-take, getD-drop}
+use lib.Dec.{eqb}
+use lib.ListN.{length, getD, take, drop, set, replicate, length-append, length-take, length-drop, List·getD-append, List·getD-eq-default}
+use lib.Seq.{sets-eq, sets, take-suc, length-take-le, getD-at, getD-take, getD-drop}
+use borrow.Author.Tests.{eqb-true, eqb-false}
 
 -- an entry of a part in its place
 pub part-at : (xs : List ℕ) (from count i : ℕ) → i < count → getD (take count (drop from xs)) i 0 ≡ getD xs (from + i) 0
@@ -30,6 +35,21 @@ four-from xs from h =
   where
     at : (i k : ℕ) → i < 4 → from + i ≡ k → getD (take 4 (drop from xs)) i 0 ≡ getD xs k 0
     at i k l e = part-at xs from 4 i l ∙ ap (λ (x : ℕ). getD xs x 0) e
+
+-- one entry more
+pub snoc-at : {A : Type 0} (xs : List A) (x z : A) (n : ℕ) → length xs ≡ n → (i : ℕ) → getD (xs ++ (x ∷ [])) i z ≡ cond (eqb n i) x (getD xs i z)
+snoc-at xs x z n e i = go (eqb n i) refl
+  where
+    go : (c : Bool) → eqb n i ≡ c → getD (xs ++ (x ∷ [])) i z ≡ cond c x (getD xs i z)
+    go true q = getD-at xs x [] z i (e ∙ eqb-true n i q)
+    go false q =
+        by-cases
+        (decLt i n)
+        (λ l. List·getD-append xs (x ∷ []) z i (omega arith))
+        (λ past.
+        let other = eqb-false n i q in
+        let after : length (xs ++ (x ∷ [])) ≤ i = omega (arith, length-append xs (x ∷ [])) in
+        List·getD-eq-default (xs ++ (x ∷ [])) z after ∙ sym (List·getD-eq-default xs z (omega arith)))
 
 -- every entry of zeros, also past their end
 pub zeros-at : (n i : ℕ) → _≡_ {A = ℕ} (getD (replicate n 0) i 0) 0

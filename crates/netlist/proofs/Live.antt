@@ -101,7 +101,7 @@ if-live : (r k : ℕ) → 0 < ifLive r k → (0 < r) × (0 < k)
 if-live zero k h = absurd (omega arith)
 if-live (suc r) k h = (omega arith, h)
 
-live-if : (r k : ℕ) → 0 < r → ifLive r k ≡ k
+pub live-if : (r k : ℕ) → 0 < r → ifLive r k ≡ k
 live-if zero k h = absurd (omega arith)
 live-if (suc r) k h = refl
 
