@@ -1,0 +1,5 @@
+pub mod Windows
+pub mod Readers
+pub mod Changes
+pub mod Listed
+pub mod Flips

@@ -1,0 +1,260 @@
+// In how many listed patterns a flip of each gate alone is seen at an output, 64 patterns in one word: by the flip itself, and by masks.
+ghost use mathlib.Core.Path.{_≡_};
+ghost use mathlib.Core.Bool.{cond};
+ghost use mathlib.Core.List.{[], _++_};
+ghost use Prim.Native.Nat.{ℕ, _+_, _<_, _≤_, max};
+ghost use lib.Count.{ones};
+ghost use lib.Dec.{eqb, ltb};
+ghost use lib.ListN.{length, getD, set, drop};
+ghost use Rattle.netlist.specs.Seen.{flipSeen, seenCounts};
+ghost use Rattle.netlist.specs.declared.Method.the-variants.{Flip, Mask};
+ghost use Rattle.area.specs.Layout as layout;
+ghost use Rattle.area.specs.Rules.{NetSound};
+ghost use Rattle.area.specs.Net.{netOf};
+ghost use Rattle.signals.specs.Signals.{laneCount, InEachLane, rightIn, WordsHold};
+ghost use Rattle.counts.specs.Counts.{inList, Entered, Reads, rightAnswer, changedAnswer, differ, Unchanged, Worked};
+ghost use Rattle.counts.specs.Counts.{Flipped, Following, someChanged, SeenIn, MasksFrom, CountsAdded};
+use netlist::Method;
+
+// The lanes that have a listed pattern.
+fn listed_lanes(many: usize) -> u64
+    requires { ⌜ many ≤ laneCount ⌝ }
+    ensures { λ r. ⌜ InEachLane r (λ l. ltb l many) ⌝ }
+{
+    if many == signals::LANES {
+        return signals::ALL;
+    }
+    (1 << many) - 1
+}
+
+// The ones of a word, one for each lane in which a flip is seen, are added to a gate's count.
+fn add_ones(counts: &mut [u32], gate: usize, word: u64)
+    requires { ⌜ (gate < length (now counts)) × (getD (now counts) gate 0 ≤ layout.mostPatterns) ⌝ }
+    ensures { λ _. ⌜ now (counts .exit) ≡ set (now (counts .entry)) gate (getD (now (counts .entry)) gate 0 + ones word) ⌝ }
+{
+    counts[gate] += u64::count_ones(word);
+}
+
+fn larger(x: usize, y: usize) -> usize
+    ensures { λ r. ⌜ r ≡ max x y ⌝ }
+{
+    if x < y {
+        return y;
+    }
+    x
+}
+
+// The gate to look at after the gate before `next`: where the window ends there, none before the first reader of the gate that changed.
+fn next_gate(next: usize, stop: usize, reader: usize) -> usize
+    ensures { λ r. ⌜ r ≡ cond (eqb next stop) (max next reader) next ⌝ }
+{
+    if next == stop {
+        return larger(next, reader);
+    }
+    next
+}
+
+// A gate is entered as a reader of a source: `first` has the lowest reader of each source, `end` one more than the highest. Gates come in order.
+fn enter_read(
+    first: &mut [usize; area::MOST_SOURCES],
+    end: &mut [usize; area::MOST_SOURCES],
+    source: usize,
+    gate: usize,
+)
+    requires { ⌜ (source < layout.mostSources) × (gate < layout.mostGates) ⌝ }
+    requires { ⌜ (length (now first) ≡ layout.mostSources) × (length (now end) ≡ layout.mostSources) ⌝ }
+    requires { ⌜ ((t : ℕ) → getD (now end) t 0 ≤ gate + 1) ⌝ }
+    ensures { λ _. ⌜ Entered (now (first .entry)) (now (end .entry)) source gate (now (first .exit)) (now (end .exit)) ⌝ }
+{
+    if gate < first[source] {
+        first[source] = gate;
+    }
+    end[source] = gate + 1;
+}
+
+fn enter_gate(
+    first: &mut [usize; area::MOST_SOURCES],
+    end: &mut [usize; area::MOST_SOURCES],
+    area: &[u32],
+    gate: usize,
+)
+    requires { ⌜ NetSound (now area) × (gate < layout.gates (now area)) ⌝ }
+    requires { ⌜ Reads (now area) gate (now first) (now end) ⌝ }
+    ensures { λ _. ⌜ Reads (now (area .entry)) (gate + 1) (now (first .exit)) (now (end .exit)) ⌝ }
+{
+    let count = area::pin_count(area, gate);
+    let mut i = 0;
+    while i < count {
+        enter_read(first, end, area::pin(area, gate, i), gate);
+        i += 1;
+    }
+}
+
+// The readers of all sources. A source without one has a `first` that no gate reaches.
+fn enter_gates(
+    first: &mut [usize; area::MOST_SOURCES],
+    end: &mut [usize; area::MOST_SOURCES],
+    area: &[u32],
+)
+    requires { ⌜ NetSound (now area) ⌝ }
+    requires { ⌜ Reads (now area) 0 (now first) (now end) ⌝ }
+    ensures { λ _. ⌜ Reads (now (area .entry)) (layout.gates (now (area .entry))) (now (first .exit)) (now (end .exit)) ⌝ }
+{
+    let gates = area::gates(area);
+    let mut gate = 0;
+    while gate < gates {
+        enter_gate(first, end, area, gate);
+        gate += 1;
+    }
+}
+
+// The lanes in which a gate's answer changes, where its pins' sources change in these lanes. Most gates read no source that does.
+fn difference(
+    area: &[u32],
+    words: &[u64; area::MOST_SOURCES],
+    changed: &[u64; area::MOST_SOURCES],
+    gate: usize,
+) -> u64
+    requires { ⌜ NetSound (now area) × (gate < layout.gates (now area)) ⌝ }
+    requires { ⌜ InEachLane (getD (now words) (layout.inputs (now area) + gate) 0) (rightAnswer (now area) (now words) gate) ⌝ }
+    ensures { λ r. ⌜ InEachLane r (λ l. differ (changedAnswer (now (area .entry)) (now (words .entry)) (now (changed .entry)) gate l)
+        (rightAnswer (now (area .entry)) (now (words .entry)) gate l)) ⌝ }
+{
+    let by = signals::pin_words(changed, area, gate);
+    if by[0] | by[1] | by[2] | by[3] == 0 {
+        return 0;
+    }
+    let pins = signals::pin_words(words, area, gate);
+    let wrong = [
+        pins[0] ^ by[0],
+        pins[1] ^ by[1],
+        pins[2] ^ by[2],
+        pins[3] ^ by[3],
+    ];
+    signals::gate_answer(area, gate, wrong) ^ words[area::inputs(area) + gate]
+}
+
+// A gate's flip that is being followed: the gates from `gate` on and before `stop` are still to be looked at.
+struct Window {
+    flipped: usize,
+    gate: usize,
+    stop: usize,
+}
+
+// Looks at the first gate of the window. Where no gate before it has a later reader, the next one to look at is its own first reader.
+fn follow_gate(
+    changed: &mut [u64; area::MOST_SOURCES],
+    area: &[u32],
+    words: &[u64; area::MOST_SOURCES],
+    first: &[usize; area::MOST_SOURCES],
+    end: &[usize; area::MOST_SOURCES],
+    window: Window,
+) -> Window
+    requires { ⌜ NetSound (now area) × Worked (now area) (now words) × Reads (now area) (layout.gates (now area)) (now first) (now end) ⌝ }
+    requires { ⌜ window .gate < window .stop ⌝ }
+    requires { ⌜ Following (now area) (now words) (window .flipped) (window .gate) (window .stop) (now changed) ⌝ }
+    ensures { λ r. ⌜ (r .flipped ≡ window .flipped) × (window .gate < r .gate) ⌝ }
+    ensures { λ r. ⌜ Following (now (area .entry)) (now (words .entry)) (r .flipped) (r .gate) (r .stop) (now (changed .exit)) ⌝ }
+    ensures { λ r. ⌜ getD (now (changed .exit)) (layout.inputs (now (area .entry)) + window .flipped) 0
+        ≡ getD (now (changed .entry)) (layout.inputs (now (area .entry)) + window .flipped) 0 ⌝ }
+{
+    let flipped = window.flipped;
+    let gate = window.gate;
+    let stop = window.stop;
+    let word = difference(area, words, changed, gate);
+    if word == 0 {
+        return Window {
+            flipped: flipped,
+            gate: gate + 1,
+            stop: stop,
+        };
+    }
+    let source = area::inputs(area) + gate;
+    changed[source] = word;
+    Window {
+        flipped: flipped,
+        gate: next_gate(gate + 1, stop, first[source]),
+        stop: larger(stop, end[source]),
+    }
+}
+
+// Follows a flip through all gates of its window, and answers the gate before which the changes stop.
+fn follow(
+    changed: &mut [u64; area::MOST_SOURCES],
+    area: &[u32],
+    words: &[u64; area::MOST_SOURCES],
+    first: &[usize; area::MOST_SOURCES],
+    end: &[usize; area::MOST_SOURCES],
+    window: Window,
+) -> usize
+    requires { ⌜ NetSound (now area) × Worked (now area) (now words) × Reads (now area) (layout.gates (now area)) (now first) (now end) ⌝ }
+    requires { ⌜ Following (now area) (now words) (window .flipped) (window .gate) (window .stop) (now changed) ⌝ }
+    ensures { λ r. ⌜ Flipped (now (area .entry)) (now (words .entry)) (window .flipped)
+        (getD (now (changed .entry)) (layout.inputs (now (area .entry)) + window .flipped) 0) (now (changed .exit)) ⌝ }
+    ensures { λ r. ⌜ (r ≤ layout.gates (now (area .entry))) × ((s : ℕ) → layout.inputs (now (area .entry)) + r ≤ s → getD (now (changed .exit)) s 0 ≡ 0) ⌝ }
+{
+    let mut window = window;
+    while window.gate < window.stop {
+        window = follow_gate(changed, area, words, first, end, window);
+    }
+    window.stop
+}
+
+// The lanes in which some output changes.
+fn output_lanes(area: &[u32], changed: &[u64; area::MOST_SOURCES]) -> u64
+    requires { ⌜ NetSound (now area) ⌝ }
+    ensures { λ r. ⌜ InEachLane r (someChanged (now (changed .entry)) (layout.outputWords (now (area .entry)))) ⌝ }
+{
+    let outputs = area::outputs(area);
+    let base = area::outputs_index(area::gates(area));
+    let mut lanes = 0;
+    let mut k = 0;
+    while k < outputs {
+        lanes |= signals::word_of(changed, area[base + k]);
+        k += 1;
+    }
+    lanes
+}
+
+// Zeros again, from one source on and before another.
+fn clear(changed: &mut [u64; area::MOST_SOURCES], from: usize, to: usize)
+    requires { ⌜ (length (now changed) ≡ layout.mostSources) × (to ≤ layout.mostSources) ⌝ }
+    requires { ⌜ ((s : ℕ) → s < from → getD (now changed) s 0 ≡ 0) ⌝ }
+    requires { ⌜ ((s : ℕ) → to ≤ s → getD (now changed) s 0 ≡ 0) ⌝ }
+    ensures { λ _. ⌜ Unchanged (now (changed .exit)) ⌝ }
+{
+    let mut source = from;
+    while source < to {
+        changed[source] = 0;
+        source += 1;
+    }
+}
+
+// The lanes in which some output changes when a gate flips in the lanes `by`.
+fn flip_lanes(
+    changed: &mut [u64; area::MOST_SOURCES],
+    area: &[u32],
+    words: &[u64; area::MOST_SOURCES],
+    first: &[usize; area::MOST_SOURCES],
+    end: &[usize; area::MOST_SOURCES],
+    gate: usize,
+    by: u64,
+) -> u64
+    requires { ⌜ NetSound (now area) × Worked (now area) (now words) × Reads (now area) (layout.gates (now area)) (now first) (now end) ⌝ }
+    requires { ⌜ (gate < layout.gates (now area)) × Unchanged (now changed) ⌝ }
+    ensures { λ r. ⌜ SeenIn (now (area .entry)) (now (words .entry)) gate by r ⌝ }
+    ensures { λ _. ⌜ Unchanged (now (changed .exit)) ⌝ }
+{
+    let inputs = area::inputs(area);
+    let source = inputs + gate;
+    changed[source] = by;
+    let window = Window {
+        flipped: gate,
+        gate: larger(gate + 1, first[source]),
+        stop: larger(gate + 1, end[source]),
+    };
+    let stop = follow(changed, area, words, first, end, window);
+    let seen = output_lanes(area, changed);
+    clear(changed, source, inputs + stop);
+    seen
+}
