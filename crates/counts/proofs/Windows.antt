@@ -44,6 +44,14 @@ below-max x y m h less = go (ltb m y) refl
     go true e = ltb-true m y e
     go false e = absurd (omega (arith, max-le {a = x} {b = y} {k = m} h (ltb-false m y e)))
 
+-- the gate looked at next is a later one
+pub next-later : (gate stop reader : ℕ) → gate < cond (eqb (gate + 1) stop) (max (gate + 1) reader) (gate + 1)
+next-later gate stop reader = go (eqb (gate + 1) stop)
+  where
+    go : (b : Bool) → gate < cond b (max (gate + 1) reader) (gate + 1)
+    go true = omega (arith, le-max-left (gate + 1) reader)
+    go false = omega arith
+
 module _ (ws words : List ℕ) (sound : NetSound ws) where
   -- what a gate's answer changes to is told by the sources before it
   pub changed-agree : (a b : List ℕ) (m : ℕ) → m < gates ws → ((s : ℕ) → s < inputs ws + m → getD a s 0 ≡ getD b s 0)

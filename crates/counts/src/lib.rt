@@ -206,11 +206,10 @@ fn output_lanes(area: &[u32], changed: &[u64; area::MOST_SOURCES]) -> u64
     ensures { λ r. ⌜ InEachLane r (someChanged (now (changed .entry)) (layout.outputWords (now (area .entry)))) ⌝ }
 {
     let outputs = area::outputs(area);
-    let base = area::outputs_index(area::gates(area));
     let mut lanes = 0;
     let mut k = 0;
     while k < outputs {
-        lanes |= signals::word_of(changed, area[base + k]);
+        lanes |= signals::word_of(changed, area::output(area, k));
         k += 1;
     }
     lanes
