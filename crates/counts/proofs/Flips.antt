@@ -7,7 +7,6 @@ use mathlib.Core.Logic.{_≢_, ⊎-elim}
 use mathlib.Core.Path.{_≡_, refl, sym, ap, ap₂, subst, _∙_}
 use native.Mathlib.Nat.{eq-or-lt-of-le}
 use native.Mathlib.Omega.{arith}
-use borrow.Author.Tests.{ltb-true, ltb-false}
 use lib.Bits.{bitXor}
 use lib.Dec.{ltb}
 use lib.ListN.{length, getD}
@@ -27,7 +26,7 @@ use Rattle.area.proofs.Words.{used-below, used-count, used-pin, pin-below, outp
 use Rattle.signals.specs.Signals.{laneCount, lane, InEachLane, rightIn, WordsHold}
 use Rattle.signals.proofs.Lanes.{lane-xor, lane-zero}
 use Rattle.counts.specs.Counts.{inList, rightAnswer, changedAnswer, differ, Flipped, someChanged, SeenIn}
-use Rattle.counts.proofs.Windows.{is-or-not, same-differ, no-change}
+use Rattle.counts.proofs.Windows.{is-or-not, by-order, same-differ, no-change}
 
 -- a right value inverted where it differs from another is that other
 invert-to : (r f : Bool) → invertIf r (differ f r) ≡ f
@@ -52,14 +51,6 @@ agree-self (o ∷ os) vs = ap₂ _&&_ (beq-self (getD vs o false)) (agree-self o
     beq-self : (b : Bool) → Bool·beq b b ≡ true
     beq-self true = refl
     beq-self false = refl
-
--- below or not
-pub by-order : {A : Type 0} (x y : ℕ) → (x < y → A) → (y ≤ x → A) → A
-by-order {A} x y below other = go (ltb x y) refl
-  where
-    go : (b : Bool) → ltb x y ≡ b → A
-    go true e = below (ltb-true x y e)
-    go false e = other (ltb-false x y e)
 
 ne-le : (m j : ℕ) → m ≢ j → j ≤ m → j < m
 ne-le m j other h = ⊎-elim (λ e. absurd (other (sym e))) (λ less. less) (eq-or-lt-of-le h)

@@ -4,3 +4,5 @@ pub mod Changes
 pub mod Outputs
 pub mod Listed
 pub mod Flips
+pub mod Masks
+pub mod Added

@@ -37,6 +37,14 @@ is-or-not {A} s t here other = go (eqb s t) refl
     go true e = here (eqb-true s t e)
     go false e = other (eqb-false s t e)
 
+-- below or not
+pub by-order : {A : Type 0} (x y : ℕ) → (x < y → A) → (y ≤ x → A) → A
+by-order {A} x y below other = go (ltb x y) refl
+  where
+    go : (b : Bool) → ltb x y ≡ b → A
+    go true e = below (ltb-true x y e)
+    go false e = other (ltb-false x y e)
+
 below-max : (x y m : ℕ) → x ≤ m → m < max x y → m < y
 below-max x y m h less = go (ltb m y) refl
   where

@@ -1,19 +1,19 @@
 -- What the steps of counting mean: lanes of listed patterns, the readers of a source, the lanes in which a source changes, masks, and counts with a block added.
 use Prim.Native.Nat.{ℕ, zero, suc, _+_, _≤_, _<_}
-use mathlib.Core.Bool.{Bool, false, not, _&&_, _||_, Bool·beq}
+use mathlib.Core.Bool.{Bool, false, cond, not, _&&_, _||_, Bool·beq}
 use mathlib.Core.List.{List, [], _∷_, map}
 use mathlib.Core.Logic.{_≢_}
 use mathlib.Core.Path.{_≡_}
 use lib.Bits.{bitXor}
 use lib.Dec.{ltb}
-use lib.ListN.{length, getD, drop}
+use lib.ListN.{length, getD, take, drop}
 use Rattle.lists.specs.Lists.{count}
 use Rattle.figure.specs.Figure.{answer}
 use Rattle.netlist.specs.declared.Method.{Method}
 use Rattle.netlist.specs.Netlist.{Netlist}
 use Rattle.netlist.specs.Live.{isLive}
-use Rattle.netlist.specs.Seen.{maskReadsFrom, seenCount}
-use Rattle.area.specs.Layout.{mostSources, inputs, gates, table, pinCount, pin, usedPins, outputWords}
+use Rattle.netlist.specs.Seen.{sensitive, pinsWhere, maskReadsFrom, seenCount}
+use Rattle.area.specs.Layout.{mostSources, mostPatterns, inputs, gates, table, pinCount, pin, usedPins, outputWords}
 use Rattle.signals.specs.Signals.{laneCount, lane, InEachLane, rightIn}
 
 -- a test of the pattern in lane l; it fails in the lanes past the list
@@ -98,6 +98,23 @@ pub record SeenIn (ws words : List ℕ) (j by word : ℕ) : Type 0 where
 
 -- ---- by masks
 
+-- the masks that the outputs give: a source that one of them reads has the lanes `by`
+pub record OutputMasks (os : List ℕ) (by : ℕ) (masks : List ℕ) : Type 0 where
+  pub long : length masks ≡ mostSources
+  pub mask : (s : ℕ) → getD masks s 0 ≡ cond (isLive (count s os)) by 0
+
+-- the first i pins of gate j that are sensitive in lane l
+abbrev pub sensitiveIn : List ℕ → List ℕ → ℕ → ℕ → ℕ → List ℕ
+sensitiveIn ws words j l i =
+    pinsWhere (sensitive (table ws j) (map (λ (p : ℕ). lane l (getD words p 0)) (usedPins ws j))) 0 (take i (usedPins ws j))
+
+-- gate j's mask passed to the sources of its first i pins, in the lanes in which a pin is sensitive
+pub record MaskPassed (ws words : List ℕ) (j i : ℕ) (old new : List ℕ) : Type 0 where
+  pub long : length new ≡ mostSources
+  pub mask :
+      (l s : ℕ) → l < laneCount
+      → lane l (getD new s 0) ≡ lane l (getD old s 0) || (lane l (getD old (inputs ws + j) 0) && isLive (count s (sensitiveIn ws words j l i)))
+
 -- the masks of all sources once the gates from j on are passed, in the lanes that have a listed pattern
 pub record MasksFrom (net : Netlist) (patterns : List ℕ) (j : ℕ) (masks : List ℕ) : Type 0 where
   pub long : length masks ≡ mostSources
@@ -107,6 +124,11 @@ pub record MasksFrom (net : Netlist) (patterns : List ℕ) (j : ℕ) (masks : Li
       ≡ ltb l (length patterns) && isLive (count s (maskReadsFrom (rightIn net patterns l) (net .outputs) (net .inputs + j) (drop j (net .gates))))
 
 -- ---- counts
+
+-- there is a count for each of g gates, with room for a block more
+pub record CountsReady (g : ℕ) (counts : List ℕ) : Type 0 where
+  pub long : g ≤ length counts
+  pub few : (j : ℕ) → j < g → getD counts j 0 ≤ mostPatterns
 
 -- one block's counts added, gate by gate
 pub record CountsAdded (method : Method) (net : Netlist) (patterns old new : List ℕ) : Type 0 where

@@ -2,18 +2,18 @@
 ghost use mathlib.Core.Path.{_≡_};
 ghost use mathlib.Core.Bool.{cond};
 ghost use mathlib.Core.List.{[], _++_};
-ghost use Prim.Native.Nat.{ℕ, _+_, _<_, _≤_, max};
+ghost use Prim.Native.Nat.{ℕ, _+_, _<_, _≤_, min, max};
 ghost use lib.Count.{ones};
 ghost use lib.Dec.{eqb, ltb};
-ghost use lib.ListN.{length, getD, set, drop};
-ghost use Rattle.netlist.specs.Seen.{flipSeen, seenCounts};
+ghost use lib.ListN.{length, getD, set, drop, replicate};
+ghost use Rattle.netlist.specs.Seen.{seenCounts};
 ghost use Rattle.netlist.specs.declared.Method.the-variants.{Flip, Mask};
 ghost use Rattle.area.specs.Layout as layout;
 ghost use Rattle.area.specs.Rules.{NetSound};
 ghost use Rattle.area.specs.Net.{netOf};
-ghost use Rattle.signals.specs.Signals.{laneCount, InEachLane, rightIn, WordsHold};
-ghost use Rattle.counts.specs.Counts.{inList, Entered, Reads, rightAnswer, changedAnswer, differ, Unchanged, Worked};
-ghost use Rattle.counts.specs.Counts.{Flipped, Following, someChanged, SeenIn, MasksFrom, CountsAdded};
+ghost use Rattle.signals.specs.Signals.{laneCount, InEachLane};
+ghost use Rattle.counts.specs.Counts.{Entered, Reads, rightAnswer, changedAnswer, differ, Unchanged, Worked};
+ghost use Rattle.counts.specs.Counts.{Flipped, Following, someChanged, SeenIn, OutputMasks, MaskPassed, CountsReady, CountsAdded};
 use netlist::Method;
 
 // The lanes that have a listed pattern.
@@ -256,4 +256,151 @@ fn flip_lanes(
     let seen = output_lanes(area, changed);
     clear(changed, source, inputs + stop);
     seen
+}
+
+// The masks that the outputs give: their sources have the lanes `by`.
+fn output_masks(area: &[u32], by: u64) -> [u64; area::MOST_SOURCES]
+    requires { ⌜ NetSound (now area) ⌝ }
+    ensures { λ r. ⌜ OutputMasks (layout.outputWords (now (area .entry))) by r ⌝ }
+{
+    let outputs = area::outputs(area);
+    let mut masks = [0u64; area::MOST_SOURCES];
+    let mut k = 0;
+    while k < outputs {
+        let source = area::index(area::output(area, k));
+        masks[source] = by;
+        k += 1;
+    }
+    masks
+}
+
+// A gate's mask is passed back to the sources of its pins, in the lanes in which a pin is sensitive.
+fn pass_mask(
+    masks: &mut [u64; area::MOST_SOURCES],
+    area: &[u32],
+    words: &[u64; area::MOST_SOURCES],
+    gate: usize,
+    mask: u64,
+)
+    requires { ⌜ NetSound (now area) × Worked (now area) (now words) × (gate < layout.gates (now area)) ⌝ }
+    requires { ⌜ (length (now masks) ≡ layout.mostSources) × (mask ≡ getD (now masks) (layout.inputs (now area) + gate) 0) ⌝ }
+    ensures { λ _. ⌜ MaskPassed (now (area .entry)) (now (words .entry)) gate (layout.pinCount (now (area .entry)) gate)
+        (now (masks .entry)) (now (masks .exit)) ⌝ }
+{
+    let table = area::table(area, gate);
+    let count = area::pin_count(area, gate);
+    let pins = signals::pin_words(words, area, gate);
+    let right = words[area::inputs(area) + gate];
+    let mut i = 0;
+    while i < count {
+        let source = area::pin(area, gate, i);
+        masks[source] |= signals::sensitive_word(table, count, pins, right, i) & mask;
+        i += 1;
+    }
+}
+
+// A gate's mask is counted and passed back; most gates that are dead, or not seen in any lane, have none.
+fn count_mask(
+    counts: &mut [u32],
+    masks: &mut [u64; area::MOST_SOURCES],
+    area: &[u32],
+    words: &[u64; area::MOST_SOURCES],
+    gate: usize,
+)
+    requires { ⌜ NetSound (now area) × Worked (now area) (now words) × (gate < layout.gates (now area)) ⌝ }
+    requires { ⌜ (gate < length (now counts)) × (getD (now counts) gate 0 ≤ layout.mostPatterns) × (length (now masks) ≡ layout.mostSources) ⌝ }
+    ensures { λ _. ⌜ now (counts .exit) ≡ set (now (counts .entry)) gate
+        (getD (now (counts .entry)) gate 0 + ones (getD (now (masks .entry)) (layout.inputs (now (area .entry)) + gate) 0)) ⌝ }
+    ensures { λ _. ⌜ MaskPassed (now (area .entry)) (now (words .entry)) gate (layout.pinCount (now (area .entry)) gate)
+        (now (masks .entry)) (now (masks .exit)) ⌝ }
+{
+    let mask = masks[area::inputs(area) + gate];
+    if mask == 0 {
+        return;
+    }
+    add_ones(counts, gate, mask);
+    pass_mask(masks, area, words, gate, mask);
+}
+
+// What is counted of a block of at most 64 patterns by the flip: each gate flips by itself.
+fn add_flips(counts: &mut [u32], area: &[u32], patterns: &[u32])
+    requires { ⌜ NetSound (now area) × (length (now patterns) ≤ laneCount) ⌝ }
+    requires { ⌜ CountsReady (layout.gates (now area)) (now counts) ⌝ }
+    ensures { λ _. ⌜ CountsAdded Flip (netOf (now (area .entry)) [] []) (now (patterns .entry)) (now (counts .entry)) (now (counts .exit)) ⌝ }
+{
+    let words = signals::right_words(area, patterns);
+    let mut first = [area::MOST_GATES; area::MOST_SOURCES];
+    let mut end = [0usize; area::MOST_SOURCES];
+    enter_gates(&mut first, &mut end, area);
+    let by = listed_lanes(patterns.len());
+    let mut changed = [0u64; area::MOST_SOURCES];
+    let gates = area::gates(area);
+    let mut gate = 0;
+    while gate < gates {
+        let seen = flip_lanes(&mut changed, area, &words, &first, &end, gate, by);
+        add_ones(counts, gate, seen);
+        gate += 1;
+    }
+}
+
+// And by masks, from the last gate to the first: a gate's mask is whole once all later gates have passed theirs.
+fn add_masks(counts: &mut [u32], area: &[u32], patterns: &[u32])
+    requires { ⌜ NetSound (now area) × (length (now patterns) ≤ laneCount) ⌝ }
+    requires { ⌜ CountsReady (layout.gates (now area)) (now counts) ⌝ }
+    ensures { λ _. ⌜ CountsAdded Mask (netOf (now (area .entry)) [] []) (now (patterns .entry)) (now (counts .entry)) (now (counts .exit)) ⌝ }
+{
+    let words = signals::right_words(area, patterns);
+    let mut masks = output_masks(area, listed_lanes(patterns.len()));
+    let mut gate = area::gates(area);
+    while 0 < gate {
+        gate -= 1;
+        count_mask(counts, &mut masks, area, &words, gate);
+    }
+}
+
+fn add_block(counts: &mut [u32], area: &[u32], patterns: &[u32], method: Method)
+    requires { ⌜ NetSound (now area) × (length (now patterns) ≤ laneCount) ⌝ }
+    requires { ⌜ CountsReady (layout.gates (now area)) (now counts) ⌝ }
+    ensures { λ _. ⌜ CountsAdded method (netOf (now (area .entry)) [] []) (now (patterns .entry)) (now (counts .entry)) (now (counts .exit)) ⌝ }
+{
+    match method {
+        Method::Flip => add_flips(counts, area, patterns),
+        Method::Mask => add_masks(counts, area, patterns),
+    }
+}
+
+fn smaller(x: usize, y: usize) -> usize
+    ensures { λ r. ⌜ r ≡ min x y ⌝ }
+{
+    if x < y {
+        return x;
+    }
+    y
+}
+
+// The first counts are made 0.
+fn zero_counts(counts: &mut [u32], many: usize)
+    requires { ⌜ many ≤ length (now counts) ⌝ }
+    ensures { λ _. ⌜ now (counts .exit) ≡ replicate many 0 ++ drop many (now (counts .entry)) ⌝ }
+{
+    let mut i = 0;
+    while i < many {
+        counts[i] = 0;
+        i += 1;
+    }
+}
+
+// In how many of the listed patterns each gate's flip is seen: one count a gate, block by block of 64 patterns. Counts past the gates stay.
+pub fn count(area: &[u32], patterns: &[u32], counts: &mut [u32], method: Method)
+    requires { ⌜ NetSound (now area) × (length (now patterns) ≤ layout.mostPatterns) × (layout.gates (now area) ≤ length (now counts)) ⌝ }
+    ensures { λ _. ⌜ now (counts .exit) ≡ seenCounts method (netOf (now (area .entry)) [] []) (now (patterns .entry))
+        ++ drop (layout.gates (now (area .entry))) (now (counts .entry)) ⌝ }
+{
+    zero_counts(counts, area::gates(area));
+    let mut at = 0;
+    while at < patterns.len() {
+        let end = smaller(at + signals::LANES, patterns.len());
+        add_block(counts, area, &patterns[at..end], method);
+        at = end;
+    }
 }

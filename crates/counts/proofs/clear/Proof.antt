@@ -8,8 +8,7 @@ use borrow.Author.Needs.{needs}
 use lib.ListN.{length, getD, length-set}
 use lib.Seq.{getD-set-same, getD-set-other}
 use Rattle.area.specs.Layout.{mostSources}
-use Rattle.counts.proofs.Flips.{by-order}
-use Rattle.counts.proofs.Windows.{is-or-not}
+use Rattle.counts.proofs.Windows.{is-or-not, by-order}
 use Rattle.counts.proofs.clear.Statement.{statement}
 use Rattle.counts.proofs.clear.Tie as tie
 

@@ -7,7 +7,7 @@ use borrow.Author.Tests.{lt-ltb, le-ltb}
 use lib.Pow.{shl-exact, pow-pos}
 use Rattle.signals.proofs.Answers.{lane-all}
 use Rattle.signals.proofs.Lanes.{ones-below, ones-past}
-use Rattle.counts.proofs.Flips.{by-order}
+use Rattle.counts.proofs.Windows.{by-order}
 use Rattle.counts.proofs.listed_lanes.Statement.{statement}
 use Rattle.counts.proofs.listed_lanes.Tie as tie
 
