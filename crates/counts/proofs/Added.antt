@@ -19,7 +19,7 @@ use Rattle.counts.specs.Counts.{inList, CountsReady, CountsAdded}
 use Rattle.counts.proofs.Windows.{is-or-not, by-order}
 use Rattle.counts.proofs.Listed.{ones-listed}
 
-module _ (method : Method) (net : Netlist) (patterns old : List ℕ) (listed : length patterns ≤ laneCount) where
+module _ (method : Method) (net : Netlist) (patterns old : List ℕ) where
   -- the gates from lo on and before hi are counted
   pub record CountedIn (lo hi : ℕ) (counts : List ℕ) : Type 0 where
     pub long : length counts ≡ length old
@@ -34,7 +34,7 @@ module _ (method : Method) (net : Netlist) (patterns old : List ℕ) (listed : l
   counted-all counts hi e c =
       record { long = c .long; added = λ j l. c .inside j (omega arith) (omega arith); past = λ j l. c .past j (omega arith) }
 
-  module _ (lo hi : ℕ) (counts : List ℕ) (c : CountedIn lo hi counts) (j word : ℕ) (small : word < 2 ^ 64) (here : j < length old)
+  module _ (listed : length patterns ≤ laneCount) (lo hi : ℕ) (counts : List ℕ) (c : CountedIn lo hi counts) (j word : ℕ) (small : word < 2 ^ 64) (here : j < length old)
       (lanes : InEachLane word (inList patterns (λ q. seenBy method net q j))) (fresh : getD counts j 0 ≡ getD old j 0) where
     abbrev stored : List ℕ
     stored = set counts j (getD counts j 0 + ones word)

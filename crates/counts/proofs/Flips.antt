@@ -16,7 +16,7 @@ use Rattle.figure.specs.Figure.{answer, invertIf}
 use Rattle.netlist.specs.Netlist.{Gate, Netlist, inputValues, pinValues, values, rightValues}
 use Rattle.netlist.specs.Exact.{outputsAgree}
 use Rattle.netlist.specs.Seen.{alone, flipSeen}
-use Rattle.netlist.proofs.Values.{right-input, right-gate}
+use Rattle.netlist.proofs.Values.{right-input}
 use Rattle.netlist.proofs.Flipped.{flipped-input, flipped-gate, alone-at, alone-other}
 use Rattle.area.specs.Layout.{inputs, gates, table, pinCount, pin, usedPins, outputWords}
 use Rattle.area.specs.Rules.{NetSound}
@@ -26,6 +26,7 @@ use Rattle.area.proofs.Words.{used-below, used-count, used-pin, pin-below, outp
 use Rattle.signals.specs.Signals.{laneCount, lane, InEachLane, rightIn, WordsHold}
 use Rattle.signals.proofs.Lanes.{lane-xor, lane-zero}
 use Rattle.counts.specs.Counts.{inList, rightAnswer, changedAnswer, differ, Flipped, someChanged, SeenIn}
+use Rattle.counts.proofs.Right.{right-answer}
 use Rattle.counts.proofs.Windows.{is-or-not, by-order, same-differ, no-change}
 
 -- a right value inverted where it differs from another is that other
@@ -92,15 +93,7 @@ module _ (ws patterns words : List ℕ) (sound : NetSound ws) (held : WordsHold 
       go false = refl
 
   module _ (m : ℕ) (here : m < gates ws) where
-    -- gate m's values, from those of its pins
-    right-answer : getD right (inputs ws + m) false ≡ rightAnswer ws words m l
-    right-answer =
-        right-gate net (sound-pins ws [] [] sound) pattern m (omega (arith, gate-count ws [] []))
-        ∙ ap (λ (g : Gate). answer (g .table) (pinValues right (g .pins))) (gate-at ws [] [] m here)
-        ∙ ap (answer (table ws m))
-        (map-same (λ p. getD right p false) (λ p. lane l (getD words p 0)) (usedPins ws m)
-        (λ i h. sym (held .held l (getD (usedPins ws m) i 0) less (omega (arith, used-below ws sound m here i h)))))
-
+    -- gate m's value under the flip, from those of its pins
     flipped-answer : ((s : ℕ) → s < inputs ws + m → Changes s)
         → getD flipped (inputs ws + m) false ≡ invertIf (getD flips m false) (changedAnswer ws words changed m l)
     flipped-answer earlier =
@@ -121,7 +114,7 @@ module _ (ws patterns words : List ℕ) (sound : NetSound ws) (held : WordsHold 
     unchanged-pins few = no-change ws words sound changed m here (λ i used. flip .before (pin ws m i) (omega (arith, pin-below ws sound m here i used))) l
 
     gate-changes : ((s : ℕ) → s < inputs ws + m → Changes s) → Changes (inputs ws + m)
-    gate-changes earlier = go ∙ sym (ap₂ differ (flipped-answer earlier) right-answer)
+    gate-changes earlier = go ∙ sym (ap₂ differ (flipped-answer earlier) (right-answer ws patterns words sound held l less m here))
       where
         -- what the answers come to where gate m flips if b is set
         at : (b : Bool) → getD flips m false ≡ b → {x : Bool} → x ≡ differ (invertIf b (changedAnswer ws words changed m l)) (rightAnswer ws words m l)

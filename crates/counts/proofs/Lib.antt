@@ -1,5 +1,6 @@
 pub mod Windows
 pub mod Readers
+pub mod Right
 pub mod Changes
 pub mod Outputs
 pub mod Listed

@@ -8,7 +8,8 @@ use native.Mathlib.Omega.{arith}
 use borrow.Author.Tests.{ltb-true, ltb-false, lt-ltb, le-ltb}
 use lib.Count.{ones, ones-step}
 use lib.Dec.{eqb, ltb}
-use lib.ListN.{length, getD}
+use lib.ListN.{length, getD, set}
+use lib.Seq.{set-getD}
 use Rattle.lists.specs.Lists.{countWhere}
 use Rattle.figure.specs.Figure.{bitOf, isOdd}
 use Rattle.signals.specs.Signals.{laneCount, lane, InEachLane}
@@ -36,7 +37,8 @@ ltb-suc l k = go (ltb l k) refl
     go true e = lt-ltb (suc l) (suc k) (omega (arith, ltb-true l k e))
     go false e = le-ltb (suc l) (suc k) (omega (arith, ltb-false l k e))
 
-ones-zero : (w : ℕ) → w ≡ 0 → ones w ≡ 0
+-- a word without a one adds nothing
+pub ones-zero : (w : ℕ) → w ≡ 0 → ones w ≡ 0
 unfolding ones
 ones-zero w e = ap ones e
 
@@ -62,3 +64,8 @@ ones-listed t (suc k) w (q ∷ patterns) small few lanes =
       ones-listed t k (w / 2) patterns (omega (arith, pow-succ' 2 k)) (omega arith)
       (λ l h. halved-lane l w ∙ lanes (suc l) (omega arith) ∙ ap (λ (b : Bool). b && t (getD patterns l 0)) (ltb-suc l (length patterns))),
     )
+
+pub add-none : (counts : List ℕ) (j w : ℕ) → w ≡ 0 → counts ≡ set counts j (getD counts j 0 + ones w)
+add-none counts j w e =
+    let same : getD counts j 0 ≡ getD counts j 0 + ones w = omega (arith, ones-zero w e) in
+    sym (set-getD counts j 0) ∙ ap (set counts j) same

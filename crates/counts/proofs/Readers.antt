@@ -100,3 +100,8 @@ module _ (ws : List ℕ) (k : ℕ) where
             (λ before. g .earlier m h before used)
             (eq-or-lt-of-le {n = m} {m = k} (omega arith));
       }
+
+-- before any gate
+pub reads-none : (ws first end : List ℕ) → length first ≡ mostSources → length end ≡ mostSources → ((s : ℕ) → getD end s 0 ≡ 0) → Reads ws 0 first end
+reads-none ws first end long-first long-end none =
+    record { long-first = long-first; long-end = long-end; few = λ s. omega (arith, none s); within = λ m i less used. absurd (omega arith) }

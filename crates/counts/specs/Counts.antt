@@ -125,6 +125,12 @@ pub record MasksFrom (net : Netlist) (patterns : List ℕ) (j : ℕ) (masks : Li
 
 -- ---- counts
 
+-- the first g counts are 0, and the others as they were
+pub record Zeroed (g : ℕ) (old new : List ℕ) : Type 0 where
+  pub long : length new ≡ length old
+  pub none : (j : ℕ) → j < g → getD new j 0 ≡ 0
+  pub past : (j : ℕ) → g ≤ j → getD new j 0 ≡ getD old j 0
+
 -- there is a count for each of g gates, with room for a block more
 pub record CountsReady (g : ℕ) (counts : List ℕ) : Type 0 where
   pub long : g ≤ length counts

@@ -5,7 +5,7 @@ ghost use mathlib.Core.List.{[], _++_};
 ghost use Prim.Native.Nat.{ℕ, _+_, _<_, _≤_, min, max};
 ghost use lib.Count.{ones};
 ghost use lib.Dec.{eqb, ltb};
-ghost use lib.ListN.{length, getD, set, drop, replicate};
+ghost use lib.ListN.{length, getD, set, drop};
 ghost use Rattle.netlist.specs.Seen.{seenCounts};
 ghost use Rattle.netlist.specs.declared.Method.the-variants.{Flip, Mask};
 ghost use Rattle.area.specs.Layout as layout;
@@ -13,7 +13,7 @@ ghost use Rattle.area.specs.Rules.{NetSound};
 ghost use Rattle.area.specs.Net.{netOf};
 ghost use Rattle.signals.specs.Signals.{laneCount, InEachLane};
 ghost use Rattle.counts.specs.Counts.{Entered, Reads, rightAnswer, changedAnswer, differ, Unchanged, Worked};
-ghost use Rattle.counts.specs.Counts.{Flipped, Following, someChanged, SeenIn, OutputMasks, MaskPassed, CountsReady, CountsAdded};
+ghost use Rattle.counts.specs.Counts.{Flipped, Following, someChanged, SeenIn, OutputMasks, MaskPassed, Zeroed, CountsReady, CountsAdded};
 use netlist::Method;
 
 // The lanes that have a listed pattern.
@@ -31,6 +31,7 @@ fn listed_lanes(many: usize) -> u64
 fn add_ones(counts: &mut [u32], gate: usize, word: u64)
     requires { ⌜ (gate < length (now counts)) × (getD (now counts) gate 0 ≤ layout.mostPatterns) ⌝ }
     ensures { λ _. ⌜ now (counts .exit) ≡ set (now (counts .entry)) gate (getD (now (counts .entry)) gate 0 + ones word) ⌝ }
+    ensures { λ _. ⌜ word < 18_446_744_073_709_551_616 ⌝ }
 {
     counts[gate] += u64::count_ones(word);
 }
@@ -311,6 +312,7 @@ fn count_mask(
     requires { ⌜ (gate < length (now counts)) × (getD (now counts) gate 0 ≤ layout.mostPatterns) × (length (now masks) ≡ layout.mostSources) ⌝ }
     ensures { λ _. ⌜ now (counts .exit) ≡ set (now (counts .entry)) gate
         (getD (now (counts .entry)) gate 0 + ones (getD (now (masks .entry)) (layout.inputs (now (area .entry)) + gate) 0)) ⌝ }
+    ensures { λ _. ⌜ getD (now (masks .entry)) (layout.inputs (now (area .entry)) + gate) 0 < 18_446_744_073_709_551_616 ⌝ }
     ensures { λ _. ⌜ MaskPassed (now (area .entry)) (now (words .entry)) gate (layout.pinCount (now (area .entry)) gate)
         (now (masks .entry)) (now (masks .exit)) ⌝ }
 {
@@ -381,7 +383,7 @@ fn smaller(x: usize, y: usize) -> usize
 // The first counts are made 0.
 fn zero_counts(counts: &mut [u32], many: usize)
     requires { ⌜ many ≤ length (now counts) ⌝ }
-    ensures { λ _. ⌜ now (counts .exit) ≡ replicate many 0 ++ drop many (now (counts .entry)) ⌝ }
+    ensures { λ _. ⌜ Zeroed many (now (counts .entry)) (now (counts .exit)) ⌝ }
 {
     let mut i = 0;
     while i < many {
