@@ -133,7 +133,8 @@ fn calls_on_areas_that_no_call_left() {
         println!("  broken alone, {name}: {times}");
         assert!(*times >= 100, "{name} was broken alone only {times} times");
     }
-    tally.assert_answers(&[0, 10, 11, 12, 13, 14, 15, 16, 17], 500);
+    tally.assert_answers(&[0, 10, 11, 12, 13, 14], 1_000);
+    tally.assert_answers(&[15, 16, 17], 300);
 }
 
 /// Breaks the area in no, one or two ways, and says in which.
