@@ -1,12 +1,12 @@
 -- Counts with a block's ones added gate by gate, in either order, and all blocks of a list. Assumes nothing.
-use Prim.Native.Nat.{ℕ, zero, suc, _+_, _-_, _^_, _≤_, _<_, min}
+use Prim.Native.Nat.{ℕ, suc, _+_, _-_, _^_, _≤_, _<_, min}
 use mathlib.Core.Bool.{Bool, true, false, cond}
 use mathlib.Core.List.{List, [], _∷_, _++_}
-use mathlib.Core.Path.{_≡_, refl, sym, ap, ap₂, subst, _∙_}
+use mathlib.Core.Path.{_≡_, refl, sym, ap, ap₂, _∙_}
 use native.Mathlib.Nat.{le-min}
 use native.Mathlib.Omega.{arith}
 use lib.Count.{ones}
-use lib.ListN.{length, getD, set, take, drop, replicate, length-set, length-append, length-take, length-drop, List·getD-append}
+use lib.ListN.{length, getD, set, take, drop, length-set, length-append, length-take, length-drop, List·getD-append}
 use lib.Seq.{getD-set-same, getD-set-other, getD-append-add, getD-drop, take-add, take-all, ext-getD}
 use Rattle.lists.specs.Lists.{countWhere, joined}
 use Rattle.lists.proofs.Joined.{length-listed, listed-at}
@@ -15,7 +15,7 @@ use Rattle.netlist.specs.declared.Method.{Method}
 use Rattle.netlist.specs.Netlist.{Netlist}
 use Rattle.netlist.specs.Seen.{seenBy, seenCount, seenCounts}
 use Rattle.area.specs.Layout.{mostPatterns}
-use Rattle.signals.specs.Signals.{laneCount, lane, InEachLane}
+use Rattle.signals.specs.Signals.{laneCount, InEachLane}
 use Rattle.counts.specs.Counts.{inList, Zeroed, CountsReady, CountsAdded}
 use Rattle.counts.proofs.Windows.{is-or-not, by-order}
 use Rattle.counts.proofs.Listed.{ones-listed}
@@ -35,7 +35,8 @@ module _ (method : Method) (net : Netlist) (patterns old : List ℕ) where
   counted-all counts hi e c =
       record { long = c .long; added = λ j l. c .inside j (omega arith) (omega arith); past = λ j l. c .past j (omega arith) }
 
-  module _ (listed : length patterns ≤ laneCount) (lo hi : ℕ) (counts : List ℕ) (c : CountedIn lo hi counts) (j word : ℕ) (small : word < 2 ^ 64) (here : j < length old)
+  module _ (listed : length patterns ≤ laneCount) (lo hi : ℕ) (counts : List ℕ) (c : CountedIn lo hi counts)
+      (j word : ℕ) (small : word < 2 ^ 64) (here : j < length old)
       (lanes : InEachLane word (inList patterns (λ q. seenBy method net q j))) (fresh : getD counts j 0 ≡ getD old j 0) where
     abbrev stored : List ℕ
     stored = set counts j (getD counts j 0 + ones word)
@@ -127,7 +128,10 @@ module _ (method : Method) (net : Netlist) (patterns entry : List ℕ) where
   counted-whole at counts all room c =
       ext-getD 0 counts whole
       (omega (arith, c .long, length-append listed (drop g entry), length-listed (seenCount method net patterns) g, length-drop g entry))
-      (λ i l. by-order i g (λ h. c .counted i h ∙ ap (λ (xs : List ℕ). seenCount method net xs i) (take-all at patterns all) ∙ sym (here i h)) (λ h. c .past i h ∙ sym (later i h)))
+      (λ i l.
+      by-order i g
+      (λ h. c .counted i h ∙ ap (λ (xs : List ℕ). seenCount method net xs i) (take-all at patterns all) ∙ sym (here i h))
+      (λ h. c .past i h ∙ sym (later i h)))
     where
       g : ℕ
       g = length (net .gates)

@@ -1,17 +1,16 @@
 -- A gate whose pins' sources change: none does where their words are all 0; else the answers on the words as they are and inverted by the changes differ
 -- where the gate's answer changes. Assumes nothing.
-use Prim.Native.Nat.{ℕ, zero, suc, _+_, _≤_, _<_}
-use mathlib.Core.Bool.{Bool}
+use Prim.Native.Nat.{ℕ, zero, suc, _<_}
 use mathlib.Core.List.{List, [], _∷_, map}
-use mathlib.Core.Path.{_≡_, refl, sym, ap, ap₂, _∙_}
+use mathlib.Core.Path.{_≡_, sym, ap, ap₂, _∙_}
 use native.Mathlib.Omega.{arith}
-use lib.Bits.{bitAnd, bitOr, bitXor, or-add-and, and-le-l, and-le-r}
+use lib.Bits.{bitOr, bitXor, or-add-and, and-le-l, and-le-r}
 use lib.ListN.{getD}
 use Rattle.figure.specs.Figure.{answer, invertIf}
-use Rattle.area.specs.Layout.{mostPins, inputs, gates, table, pinCount, pin, pins}
+use Rattle.area.specs.Layout.{mostPins, gates, table, pinCount, pin, pins}
 use Rattle.area.specs.Rules.{NetSound}
 use Rattle.area.proofs.Words.{pin-at}
-use Rattle.signals.specs.Signals.{laneCount, lane, InEachLane, pinLanes}
+use Rattle.signals.specs.Signals.{lane, pinLanes}
 use Rattle.signals.proofs.Lanes.{lane-xor, lane-zero}
 use Rattle.signals.proofs.Answers.{differs}
 use Rattle.signals.proofs.Held.{pins-lanes}
@@ -30,7 +29,10 @@ module _ (ws words changed by : List ℕ) (sound : NetSound ws) (j : ℕ) (insid
       let last = or-zero _ _ e in
       let third = or-zero _ _ (last .0) in
       let two = or-zero _ _ (third .0) in
-      lane-zero l ∙ sym (no-change ws words sound changed j inside (λ i used. go i (two .0) (two .1) (third .1) (last .1) (omega (arith, sound .gate j inside .pin-count))) l)
+      lane-zero l
+      ∙ sym (no-change ws words sound changed j inside
+      (λ i used. go i (two .0) (two .1) (third .1) (last .1) (omega (arith, sound .gate j inside .pin-count)))
+      l)
     where
       -- the word of pin i
       word : (i : ℕ) → i < mostPins → getD by i 0 ≡ 0 → getD changed (getD (pins ws j) i 0) 0 ≡ getD by i 0 → getD changed (pin ws j i) 0 ≡ 0

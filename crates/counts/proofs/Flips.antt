@@ -1,8 +1,8 @@
 -- What changes when a gate flips in the lanes of listed patterns: each source changes exactly where its value under that flip differs from the right one, so
 -- the outputs tell where the flip is seen. Assumes nothing.
-use Prim.Native.Nat.{ℕ, zero, suc, _+_, _-_, _/_, _^_, _≤_, _<_}
+use Prim.Native.Nat.{ℕ, zero, suc, _+_, _-_, _≤_, _<_}
 use mathlib.Core.Bool.{Bool, true, false, cond, not, _&&_, _||_, Bool·beq}
-use mathlib.Core.List.{List, [], _∷_, map}
+use mathlib.Core.List.{List, [], _∷_}
 use mathlib.Core.Logic.{_≢_, ⊎-elim}
 use mathlib.Core.Path.{_≡_, refl, sym, ap, ap₂, subst, _∙_}
 use native.Mathlib.Nat.{eq-or-lt-of-le}
@@ -18,14 +18,14 @@ use Rattle.netlist.specs.Exact.{outputsAgree}
 use Rattle.netlist.specs.Seen.{alone, flipSeen}
 use Rattle.netlist.proofs.Values.{right-input}
 use Rattle.netlist.proofs.Flipped.{flipped-input, flipped-gate, alone-at, alone-other}
-use Rattle.area.specs.Layout.{inputs, gates, table, pinCount, pin, usedPins, outputWords}
+use Rattle.area.specs.Layout.{inputs, gates, table, pin, usedPins, outputWords}
 use Rattle.area.specs.Rules.{NetSound}
 use Rattle.area.specs.Net.{netOf}
 use Rattle.area.proofs.Net.{gate-at, gate-count, sound-pins}
-use Rattle.area.proofs.Words.{used-below, used-count, used-pin, pin-below, output-below}
+use Rattle.area.proofs.Words.{used-below, pin-below, output-below}
 use Rattle.signals.specs.Signals.{laneCount, lane, InEachLane, rightIn, WordsHold}
 use Rattle.signals.proofs.Lanes.{lane-xor, lane-zero}
-use Rattle.counts.specs.Counts.{inList, rightAnswer, changedAnswer, differ, Flipped, someChanged, SeenIn}
+use Rattle.counts.specs.Counts.{inList, rightAnswer, changedAnswer, differ, Flipped, someChanged}
 use Rattle.counts.proofs.Right.{right-answer}
 use Rattle.counts.proofs.Windows.{is-or-not, by-order, same-differ, no-change}
 

@@ -1,8 +1,8 @@
 -- The ones of a word whose lanes tell a test of listed patterns are the patterns that pass it. Assumes nothing.
-use Prim.Native.Nat.{ℕ, zero, suc, _+_, _*_, _/_, _%_, _^_, _≤_, _<_}
-use mathlib.Core.Bool.{Bool, true, false, cond, _&&_}
+use Prim.Native.Nat.{ℕ, zero, suc, _+_, _/_, _%_, _^_, _≤_, _<_}
+use mathlib.Core.Bool.{Bool, true, false, _&&_}
 use mathlib.Core.List.{List, [], _∷_}
-use mathlib.Core.Path.{_≡_, refl, sym, ap, ap₂, _∙_}
+use mathlib.Core.Path.{_≡_, refl, sym, ap, _∙_}
 use native.Mathlib.Nat.{div-one, pow-succ', div-div-eq-div-mul, mod-lt, zero-lt-suc}
 use native.Mathlib.Omega.{arith}
 use borrow.Author.Tests.{ltb-true, ltb-false, lt-ltb, le-ltb}
@@ -12,7 +12,7 @@ use lib.ListN.{length, getD, set}
 use lib.Seq.{set-getD}
 use Rattle.lists.specs.Lists.{countWhere}
 use Rattle.figure.specs.Figure.{bitOf, isOdd}
-use Rattle.signals.specs.Signals.{laneCount, lane, InEachLane}
+use Rattle.signals.specs.Signals.{lane}
 use Rattle.counts.specs.Counts.{inList}
 
 -- the lowest lane, and the others in the halved word
@@ -53,7 +53,10 @@ ones-listed t (suc k) w [] small few lanes =
       low-lane w,
       ap bitOf (lanes 0 (omega arith) ∙ ap (λ (b : Bool). b && t 0) (le-ltb 0 0 (omega arith))),
       ones-listed t k (w / 2) [] (omega (arith, pow-succ' 2 k)) (omega arith)
-          (λ l h. halved-lane l w ∙ lanes (suc l) (omega arith) ∙ ap (λ (b : Bool). b && t 0) (le-ltb (suc l) 0 (omega arith) ∙ sym (le-ltb l 0 (omega arith)))),
+          (λ l h.
+          halved-lane l w
+          ∙ lanes (suc l) (omega arith)
+          ∙ ap (λ (b : Bool). b && t 0) (le-ltb (suc l) 0 (omega arith) ∙ sym (le-ltb l 0 (omega arith)))),
     )
 ones-listed t (suc k) w (q ∷ patterns) small few lanes =
     omega (

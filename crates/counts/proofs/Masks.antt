@@ -1,20 +1,19 @@
 -- Masks passed back from the outputs: one output after another, one pin after another, one gate after another from the last to the first. Assumes nothing.
-use Prim.Native.Nat.{ℕ, zero, suc, _+_, _≤_, _<_}
+use Prim.Native.Nat.{ℕ, zero, suc, _+_, _<_}
 use mathlib.Core.Bool.{Bool, true, false, cond, _&&_, _||_}
 use mathlib.Core.List.{List, [], _∷_, _++_, map}
-use mathlib.Core.Path.{_≡_, refl, sym, ap, ap₂, subst, _∙_}
+use mathlib.Core.Path.{_≡_, refl, sym, ap, ap₂, _∙_}
 use native.Mathlib.Nat.{add-zero, zero-add}
 use native.Mathlib.Numerals.{add-one}
 use native.Mathlib.Omega.{arith}
 use lib.Bits.{bitAnd, bitOr}
-use lib.Dec.{eqb, ltb}
+use lib.Dec.{ltb}
 use lib.ListN.{length, getD, set, take, drop, length-set, length-take}
 use lib.Seq.{getD-set-same, getD-set-other, take-suc, take-all, drop-length}
-use Rattle.lists.specs.Lists.{count, Below}
+use Rattle.lists.specs.Lists.{count}
 use Rattle.lists.proofs.Counts.{count-append, count-self, count-other}
 use Rattle.lists.proofs.Every.{map-same}
-use Rattle.figure.specs.Figure.{answer}
-use Rattle.netlist.specs.Netlist.{Gate, Netlist, gateAt, pinValues, rightValues}
+use Rattle.netlist.specs.Netlist.{Gate, Netlist, gateAt}
 use Rattle.netlist.specs.Live.{isLive, withGate}
 use Rattle.netlist.specs.Seen.{sensitive, pinsWhere, sensitivePins, maskReadsFrom, maskSeen}
 use Rattle.netlist.proofs.Live.{ifLive, count-with}
@@ -23,12 +22,11 @@ use Rattle.area.specs.Layout.{mostSources, inputs, gates, outputs, table, pinCo
 use Rattle.area.specs.Rules.{NetSound}
 use Rattle.area.specs.Net.{netOf}
 use Rattle.area.proofs.Net.{gate-at, gate-count, sound-pins}
-use Rattle.area.proofs.Words.{used-below, used-count, used-pin, few-sources}
+use Rattle.area.proofs.Words.{used-below, used-count, used-pin}
 use Rattle.signals.specs.Signals.{laneCount, lane, InEachLane, rightIn, WordsHold}
 use Rattle.signals.proofs.Lanes.{lane-or, lane-and, lane-zero}
 use Rattle.counts.specs.Counts.{inList, OutputMasks, sensitiveIn, MaskPassed, MasksFrom}
 use Rattle.counts.proofs.Windows.{is-or-not}
-use Rattle.counts.proofs.Outputs.{next-output, all-outputs}
 
 -- ---- a count of reads as a value
 
@@ -187,11 +185,14 @@ module _ (ws patterns : List ℕ) where
         mask =
             λ l s less.
             ap (lane l) (h .mask s) ∙ chosen l less (isLive (count s (outputWords ws)))
-            ∙ ap (λ (gs : List Gate). ltb l (length patterns) && isLive (count s (maskReadsFrom (rightIn net patterns l) (outputWords ws) (inputs ws + gates ws) gs))) (sym no-gates);
+            ∙ ap (λ (gs : List Gate). ltb l (length patterns) && isLive (count s (reads-by l gs))) (sym no-gates);
       }
     where
       net : Netlist
       net = netOf ws [] []
+
+      reads-by : ℕ → List Gate → List ℕ
+      reads-by l gs = maskReadsFrom (rightIn net patterns l) (outputWords ws) (inputs ws + gates ws) gs
 
       no-gates : drop (gates ws) (net .gates) ≡ []
       no-gates = ap (λ (k : ℕ). drop k (net .gates)) (sym (gate-count ws [] [])) ∙ drop-length (net .gates)

@@ -1,5 +1,5 @@
 -- The outputs gone through one by one: the lanes in which some of them changes, and the masks that they give. Assumes nothing.
-use Prim.Native.Nat.{ℕ, zero, suc, _+_, _≤_, _<_}
+use Prim.Native.Nat.{ℕ, _+_, _≤_, _<_}
 use mathlib.Core.Bool.{Bool, true, false, _||_}
 use mathlib.Core.List.{List, [], _∷_, _++_}
 use mathlib.Core.Path.{_≡_, refl, sym, ap, ap₂, _∙_}
@@ -8,11 +8,11 @@ use native.Mathlib.Omega.{arith}
 use lib.Bits.{bitOr}
 use lib.ListN.{length, getD, take}
 use lib.Seq.{take-suc, take-all}
-use Rattle.area.specs.Layout.{mostSources, mostGates, mostOutputs, inputs, gates, outputs, outputsIndex, output, outputWords}
+use Rattle.area.specs.Layout.{gates, outputs, outputsIndex, output, outputWords}
 use Rattle.area.specs.Rules.{NetSound}
-use Rattle.area.proofs.Words.{output-at, output-count, output-source, few-sources}
-use Rattle.signals.specs.Signals.{laneCount, lane, InEachLane}
-use Rattle.signals.proofs.Lanes.{lane-or, lane-zero}
+use Rattle.area.proofs.Words.{output-at, output-count}
+use Rattle.signals.specs.Signals.{lane, InEachLane}
+use Rattle.signals.proofs.Lanes.{lane-or}
 use Rattle.counts.specs.Counts.{someChanged}
 
 -- the k-th of them one more

@@ -1,8 +1,8 @@
 -- The readers of a source between their bounds: one reader entered, a gate's pins entered one by one, all gates. Assumes nothing.
-use Prim.Native.Nat.{ℕ, zero, suc, _+_, _≤_, _<_}
+use Prim.Native.Nat.{ℕ, _+_, _≤_, _<_}
 use mathlib.Core.List.{List}
 use mathlib.Core.Logic.{⊎-elim}
-use mathlib.Core.Path.{_≡_, refl, sym, ap, subst, _∙_}
+use mathlib.Core.Path.{_≡_, ap, _∙_}
 use native.Mathlib.Nat.{eq-or-lt-of-le, le-refl}
 use native.Mathlib.Omega.{arith}
 use lib.ListN.{length, getD, set, length-set}
@@ -68,7 +68,8 @@ module _ (ws : List ℕ) (k : ℕ) where
       }
 
   -- what stood between the bounds still does
-  within-still : {first end lowered raised : List ℕ} {s m : ℕ} → Entered first end s m lowered raised → (t g : ℕ) → Within first end t g → Within lowered raised t g
+  within-still : {first end lowered raised : List ℕ} {s m : ℕ} → Entered first end s m lowered raised
+      → (t g : ℕ) → Within first end t g → Within lowered raised t g
   within-still e t g w = (omega (arith, e .lower t, w .0), omega (arith, e .higher t, w .1))
 
   pub entering-more : (i : ℕ) (first end lowered raised : List ℕ) → Entering ws k i first end → Entered first end (pin ws k i) k lowered raised

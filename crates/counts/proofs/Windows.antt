@@ -1,10 +1,10 @@
 -- A flip followed gate by gate: a gate that reads no changed source does not change, so gates may be passed over; a gate that does change is stored, and
 -- its readers come into the window. Assumes nothing.
 use Prim.Native.Nat.{ℕ, zero, suc, _+_, _-_, _≤_, _<_, max}
-use mathlib.Core.Bool.{Bool, true, false, cond, not, Bool·beq}
-use mathlib.Core.List.{List, [], _∷_, map}
+use mathlib.Core.Bool.{Bool, true, false, cond, not}
+use mathlib.Core.List.{List}
 use mathlib.Core.Logic.{_≢_, ⊎-elim}
-use mathlib.Core.Path.{_≡_, refl, sym, ap, ap₂, subst, _∙_}
+use mathlib.Core.Path.{_≡_, refl, sym, ap, subst, _∙_}
 use native.Mathlib.Nat.{eq-or-lt-of-le, eq-zero-or-pos, le-max-left, le-max-right, max-le}
 use native.Mathlib.Omega.{arith}
 use borrow.Author.Tests.{eqb-true, eqb-false, ltb-true, ltb-false}
@@ -12,15 +12,14 @@ use lib.Dec.{eqb, ltb}
 use lib.Bits.{bitXor, xor-zero-r}
 use lib.ListN.{length, getD, set, length-set}
 use lib.Seq.{getD-set-same, getD-set-other}
-use Rattle.lists.specs.Lists.{Below}
 use Rattle.lists.proofs.Every.{map-same}
 use Rattle.figure.specs.Figure.{answer}
-use Rattle.area.specs.Layout.{mostSources, inputs, gates, table, pinCount, pin, usedPins}
+use Rattle.area.specs.Layout.{inputs, gates, table, pinCount, pin, usedPins}
 use Rattle.area.specs.Rules.{NetSound}
 use Rattle.area.proofs.Words.{used-below, used-count, used-pin, few-sources}
 use Rattle.signals.specs.Signals.{laneCount, lane, InEachLane}
 use Rattle.signals.proofs.Lanes.{lane-zero}
-use Rattle.counts.specs.Counts.{Within, Reads, rightAnswer, changedAnswer, differ, Unchanged, Settled, Flipped, Following}
+use Rattle.counts.specs.Counts.{Reads, rightAnswer, changedAnswer, differ, Unchanged, Settled, Flipped, Following}
 
 -- values that are equal do not differ
 pub same-differ : (x y : Bool) → x ≡ y → differ x y ≡ false
@@ -67,7 +66,9 @@ module _ (ws words : List ℕ) (sound : NetSound ws) where
   changed-agree a b m inside agree l =
       ap (answer (table ws m))
       (map-same (λ p. lane l (bitXor (getD words p 0) (getD a p 0))) (λ p. lane l (bitXor (getD words p 0) (getD b p 0))) (usedPins ws m)
-      (λ i h. ap (λ (x : ℕ). lane l (bitXor (getD words (getD (usedPins ws m) i 0) 0) x)) (agree (getD (usedPins ws m) i 0) (used-below ws sound m inside i h))))
+      (λ i h.
+      let p = getD (usedPins ws m) i 0 in
+      ap (λ (x : ℕ). lane l (bitXor (getD words p 0) x)) (agree p (used-below ws sound m inside i h))))
 
   -- a gate that reads no changed source answers as before
   pub no-change : (changed : List ℕ) (m : ℕ) → m < gates ws → ((i : ℕ) → i < pinCount ws m → getD changed (pin ws m i) 0 ≡ 0)
@@ -100,7 +101,10 @@ module _ (ws words : List ℕ) (sound : NetSound ws) where
           settled =
               λ m after less inside.
               ⊎-elim
-              (λ e. settled-zero changed m (f .later (inputs ws + m) (omega arith)) (λ l h. subst (λ (g : ℕ). differ (changedAnswer ws words changed g l) (rightAnswer ws words g l) ≡ false) (sym e) (none (omega arith) l h)))
+              (λ e.
+              settled-zero changed m (f .later (inputs ws + m) (omega arith))
+              (λ l h.
+              subst (λ (g : ℕ). differ (changedAnswer ws words changed g l) (rightAnswer ws words g l) ≡ false) (sym e) (none (omega arith) l h)))
               (λ earlier. f .settled m after earlier inside)
               (eq-or-lt-of-le {n = m} {m = gate} (omega arith));
           later = λ s h. f .later s (omega arith);
@@ -169,12 +173,20 @@ module _ (ws words : List ℕ) (sound : NetSound ws) where
                 ∙ ap (λ (x : Bool). differ x (rightAnswer ws words m l)) (sym (settled-stored m here (omega arith) l)))
                 (eq-or-lt-of-le {n = m} {m = gate} (omega arith));
             later = λ s h. elsewhere s (λ e. omega arith) ∙ f .later s (omega arith);
-            stopped = λ s h. elsewhere s (λ e. omega (arith, le-max-left stop (getD end source 0))) ∙ f .stopped s (omega (arith, le-max-left stop (getD end source 0)));
+            stopped =
+                λ s h.
+                elsewhere s (λ e. omega (arith, le-max-left stop (getD end source 0)))
+                ∙ f .stopped s (omega (arith, le-max-left stop (getD end source 0)));
             reached =
                 λ m i h here used some.
                 is-or-not (pin ws m i) source
                 (λ e. omega (arith, reads .within m i here used .1, ap (λ (s : ℕ). getD end s 0) e, le-max-right stop (getD end source 0)))
-                (λ other. omega (arith, f .reached m i (omega arith) here used (λ z. some (elsewhere (pin ws m i) other ∙ z)), le-max-left stop (getD end source 0)));
+                (λ other.
+                omega (
+                  arith,
+                  f .reached m i (omega arith) here used (λ z. some (elsewhere (pin ws m i) other ∙ z)),
+                  le-max-left stop (getD end source 0),
+                ));
             after = (
               omega (arith, f .after .0),
               omega (arith, f .after .1, le-max-left stop (getD end source 0)),

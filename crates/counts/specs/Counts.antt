@@ -1,5 +1,5 @@
--- What the steps of counting mean: lanes of listed patterns, the readers of a source, the lanes in which a source changes, masks, and counts with a block added.
-use Prim.Native.Nat.{ℕ, zero, suc, _+_, _≤_, _<_}
+-- What the steps of counting mean: lanes of listed patterns, readers of a source, lanes in which a source changes, masks, counts with a block added.
+use Prim.Native.Nat.{ℕ, _+_, _≤_, _<_}
 use mathlib.Core.Bool.{Bool, false, cond, not, _&&_, _||_, Bool·beq}
 use mathlib.Core.List.{List, [], _∷_, map}
 use mathlib.Core.Logic.{_≢_}

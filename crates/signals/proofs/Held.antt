@@ -1,26 +1,26 @@
 -- Words that hold values: from the inputs on gate by gate. Assumes nothing.
-use Prim.Native.Nat.{ℕ, zero, suc, _+_, _/_, _^_, _≤_, _<_}
+use Prim.Native.Nat.{ℕ, zero, suc, _+_, _/_, _^_, _<_}
 use mathlib.Core.Bool.{Bool, true, false}
 use mathlib.Core.List.{List, [], _∷_, map}
 use mathlib.Core.Logic.{⊎-elim}
-use mathlib.Core.Path.{_≡_, refl, sym, ap, ap₂, subst, _∙_}
+use mathlib.Core.Path.{_≡_, refl, sym, ap, subst, _∙_}
 use native.Mathlib.Nat.{eq-or-lt-of-le}
 use native.Mathlib.Omega.{arith}
 use borrow.Author.Tests.{ltb-true, ltb-false}
 use lib.Dec.{ltb}
-use lib.ListN.{length, getD, set, take, length-set}
+use lib.ListN.{getD, set, take, length-set}
 use lib.Seq.{getD-set-same, getD-set-other}
 use Rattle.lists.specs.Lists.{Below}
 use Rattle.lists.proofs.Every.{map-same}
 use Rattle.figure.specs.Figure.{isOdd, answer}
-use Rattle.netlist.specs.Netlist.{Gate, Netlist, gateAt, pinValues, rightValues}
+use Rattle.netlist.specs.Netlist.{Gate, pinValues}
 use Rattle.netlist.proofs.Values.{right-input, right-gate}
-use Rattle.area.specs.Layout.{mostPins, mostSources, inputs, gates, pinCount, table, pin, pins, usedPins}
+use Rattle.area.specs.Layout.{mostSources, inputs, gates, pinCount, table, pin, pins, usedPins}
 use Rattle.area.specs.Rules.{NetSound}
 use Rattle.area.specs.Net.{netOf}
 use Rattle.area.proofs.Net.{gate-at, gate-count, sound-pins}
 use Rattle.area.proofs.Words.{used-below, few-sources}
-use Rattle.signals.specs.Signals.{laneCount, lane, InEachLane, pinLanes, InputWords, rightIn, WordsHold}
+use Rattle.signals.specs.Signals.{lane, InEachLane, pinLanes, InputWords, rightIn, WordsHold}
 
 -- every pin, used or not, is a source
 pub pin-source : (ws : List ℕ) → NetSound ws → (j : ℕ) → j < gates ws → (i : ℕ) → getD (pins ws j) i 0 < mostSources

@@ -2,7 +2,7 @@
 use Prim.Native.Nat.{ℕ, zero, suc, _+_, _-_, _*_, _/_, _%_, _^_, _≤_, _<_, min, max}
 use mathlib.Core.Bool.{Bool, true, false, _&&_, _||_}
 use mathlib.Core.List.{List}
-use mathlib.Core.Path.{_≡_, refl, sym, ap, ap₂, _∙_}
+use mathlib.Core.Path.{_≡_, refl, sym, ap, _∙_}
 use native.Mathlib.Nat.{mod-lt, zero-lt-suc, div-one, pow-succ', div-div-eq-div-mul, zero-div}
 use native.Mathlib.Omega.{arith}
 use lib.Arith.{digits-mod}
@@ -11,7 +11,7 @@ use lib.Dec.{eqb}
 use lib.ListN.{length, getD, List·getD-eq-default}
 use lib.Pow.{pow-pos}
 use Rattle.figure.specs.Figure.{isOdd, invertIf}
-use Rattle.signals.specs.Signals.{laneCount, lane}
+use Rattle.signals.specs.Signals.{lane}
 
 -- ---- one law for the operations: `f` does with two digits what `on` does with two values
 
@@ -102,7 +102,10 @@ module _ (patterns : List ℕ) (i : ℕ) where
   packed-none =
       record {
         small = pow-pos (length patterns - length patterns);
-        bits = λ l. lane-zero l ∙ sym (ap (λ (x : ℕ). isOdd (x / 2 ^ i)) (List·getD-eq-default patterns 0 {n = length patterns + l} (omega arith)) ∙ ap isOdd (zero-div (2 ^ i)));
+        bits =
+            λ l.
+            let past = List·getD-eq-default patterns 0 {n = length patterns + l} (omega arith) in
+            lane-zero l ∙ sym (ap (λ (x : ℕ). isOdd (x / 2 ^ i)) past ∙ ap isOdd (zero-div (2 ^ i)));
       }
 
   pub packed-more : (word k : ℕ) → k < length patterns → Packed patterns i word (suc k) → Packed patterns i (2 * word + getD patterns k 0 / 2 ^ i % 2) k

@@ -1,5 +1,5 @@
 -- Words of 64 patterns: bit l of a source's word is its value in lane l, under pattern l of a block. Lanes past a list have pattern 0.
-use Prim.Native.Nat.{ℕ, _+_, _/_, _^_, _<_}
+use Prim.Native.Nat.{ℕ, _/_, _^_, _<_}
 use mathlib.Core.Bool.{Bool, false}
 use mathlib.Core.List.{List, map}
 use mathlib.Core.Path.{_≡_}

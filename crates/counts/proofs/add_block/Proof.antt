@@ -4,10 +4,14 @@ use Rattle.counts.proofs.add_block.Statement.{statement}
 use Rattle.counts.proofs.add_block.Tie as tie
 
 returns : tie.Need-returns
-returns c = rw (c .before .before .before .before .enum-told .given .1) (c .before .before .add-flips .ensures)
+returns c =
+    let at-enum-told = c .before .before .before .before .enum-told in
+    rw (at-enum-told .given .1) (c .before .before .add-flips .ensures)
 
 returns-2 : tie.Need-returns-2
-returns-2 c = rw (c .before .before .before .before .enum-told2 .given .1) (c .before .before .add-masks .ensures)
+returns-2 c =
+    let at-enum-told2 = c .before .before .before .before .enum-told2 in
+    rw (at-enum-told2 .given .1) (c .before .before .add-masks .ensures)
 
 pub add-block-spec : {M : Type 1} → statement M
 add-block-spec =

@@ -1,10 +1,9 @@
 -- `counts::add_flips` meets its contract: gate by gate. Assumes nothing.
-use Prim.Native.Nat.{ℕ, _+_, _-_, _^_, _≤_, _<_}
-use mathlib.Core.List.{List, []}
-use mathlib.Core.Path.{_≡_, refl, sym, _∙_}
+use Prim.Native.Nat.{_-_, _≤_, _<_}
+use mathlib.Core.List.{[]}
+use mathlib.Core.Path.{refl, _∙_}
 use native.Mathlib.Omega.{arith}
 use borrow.Author.Needs.{needs}
-use lib.ListN.{length, getD}
 use Rattle.lists.proofs.Parts.{zeros-at}
 use Rattle.netlist.specs.declared.Method.the-variants.{Flip}
 use Rattle.area.specs.Layout as layout
@@ -29,59 +28,90 @@ abbrev μ-loop : tie.MeasureT-loop
 μ-loop counts₀ area patterns words first end by changed₀ gates gate₀ counts changed gate = gates - gate
 
 right-words-requires : tie.Need-right-words-requires Inv-loop μ-loop
-right-words-requires c κs = c .before .before .before .pre .0
+right-words-requires c κs =
+    let at-pre = c .before .before .before .pre in
+    at-pre .0
 
 enter-gates-requires : tie.Need-enter-gates-requires Inv-loop μ-loop
-enter-gates-requires c κs = (c .before .before .before .before .before .before .pre .0 .0, reads-none (c .before .before .before .before .before .before .args .area .now) _ _ refl refl (zeros-at mostSources))
+enter-gates-requires c κs =
+    let s = c .before .before .before .before .before .before in
+    (s .pre .0 .0, reads-none (s .args .area .now) _ _ refl refl (zeros-at mostSources))
 
 listed-lanes-requires : tie.Need-listed-lanes-requires Inv-loop μ-loop
-listed-lanes-requires c κs = c .before .before .before .before .before .before .before .pre .0 .1
+listed-lanes-requires c κs =
+    let s = c .before .before .before .before .before .before .before in
+    s .pre .0 .1
 
 gates-requires : tie.Need-gates-requires Inv-loop μ-loop
-gates-requires c κs = omega (arith, c .before .before .before .before .before .before .before .before .pre .0 .0 .long)
+gates-requires c κs =
+    let s = c .before .before .before .before .before .before .before .before in
+    omega (arith, s .pre .0 .0 .long)
 
 loop-holds : tie.Need-loop-holds Inv-loop μ-loop
 loop-holds c =
-    (omega arith, record { long = refl; none = zeros-at mostSources }, counted-none Flip (netOf (c .before .before .before .before .before .before .before .before .before .args .area .now) [] []) (c .before .before .before .before .before .before .before .before .before .args .patterns .now) (c .before .before .before .before .before .before .before .before .before .args .counts .now) 0)
+    let s = c .before .before .before .before .before .before .before .before .before in (
+      omega arith,
+      record { long = refl; none = zeros-at mostSources },
+      counted-none Flip (netOf (s .args .area .now) [] []) (s .args .patterns .now) (s .args .counts .now) 0,
+    )
 
 flip-lanes-requires : tie.Need-flip-lanes-requires Inv-loop μ-loop
 flip-lanes-requires c κs =
-    let a = c .before .before .before .before .before .before .before .before .before .before .before .before .before .before .before .args in
+    let s = c .before .before .before .before .before .before .before .before .before .before .before .before .before .before .before in
+    let at-right-words = c .before .before .before .before .before .before .before .before .before .before .before .right-words in
+    let at-enter-gates = c .before .before .before .before .before .before .before .before .enter-gates in
+    let at-gates = c .before .before .before .before .before .before .gates in
+    let l = c .before .before .before .before .before .loop in
+    let a = s .args in
     let ws = a .area .now in (
-      (c .before .before .before .before .before .before .before .before .before .before .before .before .before .before .before .pre .0 .0, words-worked ws (a .patterns .now) (c .before .before .before .before .before .before .before .before .before .before .before .right-words .result) (c .before .before .before .before .before .before .before .before .before .before .before .before .before .before .before .pre .0 .0) (c .before .before .before .before .before .before .before .before .before .before .before .right-words .ensures), c .before .before .before .before .before .before .before .before .enter-gates .ensures),
-      (omega (arith, c .before .before .before .before .before .before .gates .ensures), c .before .before .before .before .before .loop .inv .1),
+      (s .pre .0 .0, words-worked ws (a .patterns .now) (at-right-words .result) (s .pre .0 .0) (at-right-words .ensures), at-enter-gates .ensures),
+      (omega (arith, at-gates .ensures), l .inv .1),
     )
 
 add-ones-requires : tie.Need-add-ones-requires Inv-loop μ-loop
 add-ones-requires c κs =
+    let s = c .before .before .before .before .before .before .before .before .before .before .before .before .before .before .before .before .before in
+    let at-gates = c .before .before .before .before .before .before .before .before .gates in
     let l = c .before .before .before .before .before .before .before .loop in
     let counted = l .inv .2 in
-    let ready = c .before .before .before .before .before .before .before .before .before .before .before .before .before .before .before .before .before .pre .1 in
-    (omega (arith, counted .long, ready .long, c .before .before .before .before .before .before .before .before .gates .ensures), rw (counted .past (l .gate) (omega arith)) (ready .few (l .gate) (omega (arith, c .before .before .before .before .before .before .before .before .gates .ensures))))
+    let ready = s .pre .1 in (
+      omega (arith, counted .long, ready .long, at-gates .ensures),
+      rw (counted .past (l .gate) (omega arith)) (ready .few (l .gate) (omega (arith, at-gates .ensures))),
+    )
 
 loop-again : tie.Need-loop-again Inv-loop μ-loop
 loop-again c =
-    let l = c .before .before .before .before .before .before .before .before .before .before .loop in
-    let a = c .before .before .before .before .before .before .before .before .before .before .before .before .before .before .before .before .before .before .before .before .args in
+    let at-add-ones = c .before .before .add-ones in
+    let at-flip-lanes = c .before .before .before .before .flip-lanes in
+    let at-loop = c .before .before .before .before .before .before .before .before .before .before in
+    let at-gates = at-loop .before .gates in
+    let at-listed-lanes = at-loop .before .before .listed-lanes in
+    let at-right-words = at-loop .before .before .before .before .before .before .right-words in
+    let s = at-loop .before .before .before .before .before .before .before .before .before .before in
+    let l = at-loop .loop in
+    let a = s .args in
     let ws = a .area .now in
-    let seen = c .before .before .before .before .flip-lanes .ensures .0 in
-    let inside : l .gate < layout.gates ws = omega (arith, c .before .before .before .before .before .before .before .before .before .before .before .gates .ensures) in
-    let lanes : InEachLane (c .before .before .before .before .flip-lanes .result) (inList (a .patterns .now) (λ q. flipSeen (netOf ws [] []) q (l .gate)))
+    let seen = at-flip-lanes .ensures .0 in
+    let test = c .before .before .before .before .before .before .before .before .before .loop-test in
+    let inside : l .gate < layout.gates ws = omega (arith, at-gates .ensures, test .taken) in
+    let lanes : InEachLane (at-flip-lanes .result) (inList (a .patterns .now) (λ q. flipSeen (netOf ws [] []) q (l .gate)))
     = λ k less.
     seen .seen k less
-    ∙ flip-seen ws (a .patterns .now) (c .before .before .before .before .before .before .before .before .before .before .before .before .before .before .before .before .right-words .result) (c .before .before .before .before .before .before .before .before .before .before .before .before .before .before .before .before .before .before .before .before .pre .0 .0) (c .before .before .before .before .before .before .before .before .before .before .before .before .before .before .before .before .right-words .ensures) (l .gate) (c .before .before .before .before .before .before .before .before .before .before .before .before .listed-lanes .result) inside (c .before .before .before .before .before .before .before .before .before .before .before .before .listed-lanes .ensures)
-    (seen .changed) (seen .flipped) k less in (
+    ∙ flip-seen ws (a .patterns .now) (at-right-words .result) (s .pre .0 .0) (at-right-words .ensures) (l .gate) (at-listed-lanes .result) inside
+    (at-listed-lanes .ensures) (seen .changed) (seen .flipped) k less in (
       omega arith,
-      c .before .before .before .before .flip-lanes .ensures .1,
-      rw (c .before .before .add-ones .ensures .0)
-          (counted-up Flip (netOf ws [] []) (a .patterns .now) (a .counts .now) (c .before .before .before .before .before .before .before .before .before .before .before .before .before .before .before .before .before .before .before .before .pre .0 .1) 0 (l .gate) (l .counts) (l .inv .2) (l .gate) (c .before .before .before .before .flip-lanes .result)
-          (c .before .before .add-ones .ensures .1) (omega (arith, c .before .before .before .before .before .before .before .before .before .before .before .before .before .before .before .before .before .before .before .before .pre .1 .long, inside)) lanes (l .inv .2 .past (l .gate) (omega arith)) refl (omega arith)),
+      at-flip-lanes .ensures .1,
+      rw (at-add-ones .ensures .0)
+          (counted-up Flip (netOf ws [] []) (a .patterns .now) (a .counts .now) (s .pre .0 .1) 0 (l .gate) (l .counts) (l .inv .2)
+          (l .gate) (at-flip-lanes .result)
+          (at-add-ones .ensures .1) (omega (arith, s .pre .1 .long, inside)) lanes (l .inv .2 .past (l .gate) (omega arith)) refl (omega arith)),
     )
 
 returns : tie.Need-returns Inv-loop μ-loop
 returns c =
+    let s = c .before .before .before .before .before .before .before .before .before .before .before in
     let l = c .before .loop in
-    let a = c .before .before .before .before .before .before .before .before .before .before .before .args in
+    let a = s .args in
     let ws = a .area .now in
     counted-all Flip (netOf ws [] []) (a .patterns .now) (a .counts .now) (l .counts) (l .gate)
     (omega (arith, gate-count ws [] [], c .before .before .gates .ensures))

@@ -7,7 +7,9 @@ use Rattle.counts.proofs.add_ones.Statement.{statement}
 use Rattle.counts.proofs.add_ones.Tie as tie
 
 add-counts : tie.Need-add-counts
-add-counts c = omega (arith, c .before .pre .1, ones-le 64 (c .before .args .word) (c .before .fits .word .fits))
+add-counts c =
+    let s = c .before in
+    omega (arith, s .pre .1, ones-le 64 (s .args .word) (s .fits .word .fits))
 
 returns : tie.Need-returns
 returns c = (refl, c .before .fits .word .fits)

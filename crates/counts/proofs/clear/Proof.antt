@@ -1,16 +1,17 @@
 -- `counts::clear` meets its contract: zeros before the source that is next. Assumes nothing.
 use Prim.Native.Nat.{ℕ, _+_, _-_, _≤_, _<_}
-use mathlib.Core.Logic.{⊎-elim}
 use mathlib.Core.Path.{_≡_, _∙_}
-use native.Mathlib.Nat.{eq-or-lt-of-le}
 use native.Mathlib.Omega.{arith}
 use borrow.Author.Needs.{needs}
-use lib.ListN.{length, getD, length-set}
+use lib.ListN.{length, getD, set, length-set}
 use lib.Seq.{getD-set-same, getD-set-other}
 use Rattle.area.specs.Layout.{mostSources}
 use Rattle.counts.proofs.Windows.{is-or-not, by-order}
 use Rattle.counts.proofs.clear.Statement.{statement}
 use Rattle.counts.proofs.clear.Tie as tie
+
+same : (t k : ℕ) → t < k + 1 → k ≤ t → t ≡ k
+same t k less past = omega arith
 
 abbrev Inv-loop : tie.InvT-loop
 Inv-loop changed₀ from to source₀ changed source =
@@ -24,18 +25,15 @@ loop-holds c = (c .pre .0 .0, c .pre .1 .0, c .pre .1 .1)
 
 loop-again : tie.Need-loop-again Inv-loop μ-loop
 loop-again c =
+    let s = c .before .before in
     let l = c .before .loop in
-    let stored : (s : ℕ) → getD (l .changed) s 0 ≡ 0 → getD (lib.ListN.set (l .changed) (l .source) 0) s 0 ≡ 0
-    = λ s e.
-    is-or-not s (l .source)
-    (λ q. rw q (getD-set-same (l .changed) (l .source) 0 0 (omega (arith, l .inv .0, c .before .before .pre .0 .1))))
-    (λ other. getD-set-other (l .changed) (l .source) s 0 0 other ∙ e) in (
+    let here : getD (set (l .changed) (l .source) 0) (l .source) 0 ≡ 0
+    = getD-set-same (l .changed) (l .source) 0 0 (omega (arith, l .inv .0, s .pre .0 .1)) in
+    let still : (t : ℕ) → getD (l .changed) t 0 ≡ 0 → getD (set (l .changed) (l .source) 0) t 0 ≡ 0
+    = λ t e. is-or-not t (l .source) (λ q. rw q here) (λ other. getD-set-other (l .changed) (l .source) t 0 0 other ∙ e) in (
       length-set (l .changed) (l .source) 0 ∙ l .inv .0,
-      λ s less.
-          is-or-not s (l .source)
-          (λ q. rw q (getD-set-same (l .changed) (l .source) 0 0 (omega (arith, l .inv .0, c .before .before .pre .0 .1))))
-          (λ other. stored s (l .inv .1 s (omega arith))),
-      λ s past. stored s (l .inv .2 s past),
+      λ t less. by-order t (l .source) (λ before. still t (l .inv .1 t before)) (λ past. rw (same t (l .source) less past) here),
+      λ t past. still t (l .inv .2 t past),
     )
 
 returns : tie.Need-returns Inv-loop μ-loop

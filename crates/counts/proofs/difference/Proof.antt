@@ -1,36 +1,48 @@
 -- `counts::difference` meets its contract: no pin changes, or the answers are compared. Assumes nothing.
 use Prim.Native.Nat.{ℕ, _+_}
-use mathlib.Core.Path.{_≡_, sym, ap, ap₂, _∙_}
+use mathlib.Core.Path.{ap, _∙_}
 use native.Mathlib.Omega.{arith}
 use borrow.Author.Needs.{needs}
 use lib.ListN.{getD}
 use Rattle.signals.specs.Signals.{lane}
 use Rattle.area.proofs.Words.{few-sources}
-use Rattle.signals.proofs.Lanes.{lane-zero}
 use Rattle.counts.proofs.Changes.{unchanged-answer, changed-difference}
 use Rattle.counts.proofs.difference.Statement.{statement}
 use Rattle.counts.proofs.difference.Tie as tie
 
 returns : tie.Need-returns
 returns c l less =
-    let a = c .before .before .before .args in
-    unchanged-answer (a .area .now) (a .words .now) (a .changed .now) (c .before .pin-words .result) (c .before .before .before .pre .0 .0) (a .gate) (c .before .before .before .pre .0 .1) (c .before .pin-words .ensures) (c .if1 .taken) l
+    let s = c .before .before .before in
+    let at-pin-words = c .before .pin-words in
+    let a = s .args in
+    unchanged-answer (a .area .now) (a .words .now) (a .changed .now) (at-pin-words .result) (s .pre .0 .0) (a .gate) (s .pre .0 .1)
+    (at-pin-words .ensures) (c .if1 .taken) l
 
 add-result : tie.Need-add-result
-add-result c = omega (arith, c .inputs .ensures, few-sources (c .before .before .before .before .before .before .args .area .now) (c .before .before .before .before .before .before .pre .0 .0), c .before .before .before .before .before .before .pre .0 .1)
+add-result c =
+    let s = c .before .before .before .before .before .before in
+    omega (arith, c .inputs .ensures, few-sources (s .args .area .now) (s .pre .0 .0), s .pre .0 .1)
 
 mul-result : tie.Need-mul-result
-mul-result c = omega (arith, c .inputs .ensures, few-sources (c .before .before .before .before .before .before .args .area .now) (c .before .before .before .before .before .before .pre .0 .0), c .before .before .before .before .before .before .pre .0 .1)
+mul-result c =
+    let s = c .before .before .before .before .before .before in
+    omega (arith, c .inputs .ensures, few-sources (s .args .area .now) (s .pre .0 .0), s .pre .0 .1)
 
 element-copy-out-result : tie.Need-element-copy-out-result
-element-copy-out-result c = omega (arith, c .inputs .ensures, few-sources (c .before .before .before .before .before .before .args .area .now) (c .before .before .before .before .before .before .pre .0 .0), c .before .before .before .before .before .before .pre .0 .1)
+element-copy-out-result c =
+    let s = c .before .before .before .before .before .before in
+    omega (arith, c .inputs .ensures, few-sources (s .args .area .now) (s .pre .0 .0), s .pre .0 .1)
 
 returns-2 : tie.Need-returns-2
 returns-2 c l less =
-    let a = c .before .before .before .before .before .before .before .args in
-    changed-difference (a .area .now) (a .words .now) (a .changed .now) (c .before .before .before .before .before .pin-words .result) (c .before .before .before .before .before .before .before .pre .0 .0) (a .gate) (c .before .before .before .before .before .before .before .pre .0 .1) (c .before .before .before .before .before .pin-words .ensures)
-    (c .before .before .before .pin-words2 .result) (c .before .before .gate-answer .result) _ l (c .before .before .before .pin-words2 .ensures) (c .before .before .gate-answer .ensures l less)
-    (ap (λ (n : ℕ). lane l (getD (a .words .now) (n + a .gate) 0)) (c .before .inputs .ensures) ∙ c .before .before .before .before .before .before .before .pre .1 l less)
+    let s = c .before .before .before .before .before .before .before in
+    let at-pin-words = c .before .before .before .before .before .pin-words in
+    let at-pin-words2 = c .before .before .before .pin-words2 in
+    let at-gate-answer = c .before .before .gate-answer in
+    let a = s .args in
+    changed-difference (a .area .now) (a .words .now) (a .changed .now) (at-pin-words .result) (s .pre .0 .0) (a .gate) (s .pre .0 .1) (at-pin-words .ensures)
+    (at-pin-words2 .result) (at-gate-answer .result) _ l (at-pin-words2 .ensures) (at-gate-answer .ensures l less)
+    (ap (λ (n : ℕ). lane l (getD (a .words .now) (n + a .gate) 0)) (c .before .inputs .ensures) ∙ s .pre .1 l less)
 
 pub difference-spec : {M : Type 1} → statement M
 difference-spec =

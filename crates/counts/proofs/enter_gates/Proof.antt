@@ -1,5 +1,5 @@
 -- `counts::enter_gates` meets its contract: gate by gate. Assumes nothing.
-use Prim.Native.Nat.{ℕ, _-_, _≤_}
+use Prim.Native.Nat.{_-_, _≤_}
 use mathlib.Core.Path.{_≡_}
 use native.Mathlib.Omega.{arith}
 use borrow.Author.Needs.{needs}
@@ -21,15 +21,20 @@ loop-holds : tie.Need-loop-holds Inv-loop μ-loop
 loop-holds c = (omega arith, c .before .before .pre .1)
 
 enter-gate-requires : tie.Need-enter-gate-requires Inv-loop μ-loop
-enter-gate-requires c κs = ((c .before .before .before .before .before .before .pre .0, omega (arith, c .before .before .before .before .gates .ensures)), c .before .before .before .loop .inv .1)
+enter-gate-requires c κs =
+    let s = c .before .before .before .before .before .before in
+    let at-gates = c .before .before .before .before .gates in
+    let l = c .before .before .before .loop in
+    ((s .pre .0, omega (arith, at-gates .ensures)), l .inv .1)
 
 loop-again : tie.Need-loop-again Inv-loop μ-loop
 loop-again c = (omega arith, c .enter-gate .ensures)
 
 returns : tie.Need-returns Inv-loop μ-loop
 returns c =
+    let s = c .before .before .before .before in
     let l = c .before .loop in
-    let end : l .gate ≡ layout.gates (c .before .before .before .before .args .area .now) = omega (arith, c .before .before .gates .ensures) in
+    let end : l .gate ≡ layout.gates (s .args .area .now) = omega (arith, c .before .before .gates .ensures) in
     rw end at (l .inv .1)
 
 pub enter-gates-spec : {M : Type 1} → statement M

@@ -1,6 +1,5 @@
 -- `counts::enter_read` meets its contract. Assumes nothing.
 use mathlib.Core.Logic.{⊎-elim}
-use mathlib.Core.Path.{_≡_}
 use borrow.Author.Needs.{needs}
 use Rattle.counts.proofs.Readers.{entered-lower, entered-same}
 use Rattle.counts.proofs.enter_read.Statement.{statement}

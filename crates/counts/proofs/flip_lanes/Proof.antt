@@ -13,27 +13,38 @@ use Rattle.counts.proofs.flip_lanes.Tie as tie
 
 follow-requires : tie.Need-follow-requires
 follow-requires c κs =
-    let a = c .before .before .before .before .before .before .before .args in
-    rw (c .before .before .before .larger .ensures, c .before .larger2 .ensures, c .before .before .before .before .before .inputs .ensures) (
-      c .before .before .before .before .before .before .before .pre .0,
-      follow-first (a .area .now) (a .words .now) (c .before .before .before .before .before .before .before .pre .0 .0) (a .gate) (a .first .now) (a .end .now) (c .before .before .before .before .before .before .before .pre .0 .2) (c .before .before .before .before .before .before .before .pre .1 .0) (a .changed .now) (a .by) (c .before .before .before .before .before .before .before .pre .1 .1),
+    let s = c .before .before .before .before .before .before .before in
+    let at-inputs = c .before .before .before .before .before .inputs in
+    let at-larger = c .before .before .before .larger in
+    let a = s .args in
+    rw (at-larger .ensures, c .before .larger2 .ensures, at-inputs .ensures) (
+      s .pre .0,
+      follow-first (a .area .now) (a .words .now) (s .pre .0 .0) (a .gate) (a .first .now) (a .end .now) (s .pre .0 .2) (s .pre .1 .0)
+          (a .changed .now) (a .by) (s .pre .1 .1),
     )
 
 clear-requires : tie.Need-clear-requires
 clear-requires c κs =
-    let ws = c .before .before .before .before .before .before .before .before .before .before .before .args .area .now in
-    let f = c .before .before .before .follow .ensures in
-    rw (c .before .before .before .before .before .before .before .before .before .inputs .ensures)
-    ((f .0 .long, omega (arith, f .1 .0, few-sources ws (c .before .before .before .before .before .before .before .before .before .before .before .pre .0 .0))), (f .0 .before, f .1 .1))
+    let s = c .before .before .before .before .before .before .before .before .before .before .before in
+    let at-inputs = c .before .before .before .before .before .before .before .before .before .inputs in
+    let at-follow = c .before .before .before .follow in
+    let ws = s .args .area .now in
+    let f = at-follow .ensures in
+    rw (at-inputs .ensures)
+    ((f .0 .long, omega (arith, f .1 .0, few-sources ws (s .pre .0 .0))), (f .0 .before, f .1 .1))
 
 returns : tie.Need-returns
 returns c =
-    let a = c .before .before .before .before .before .before .before .before .before .before .before .before .args in
+    let s = c .before .before .before .before .before .before .before .before .before .before .before .before in
+    let at-inputs = c .before .before .before .before .before .before .before .before .before .before .inputs in
+    let at-follow = c .before .before .before .before .follow in
+    let a = s .args in
     let ws = a .area .now in
-    let f = c .before .before .before .before .follow .ensures .0 in
+    let f = at-follow .ensures .0 in
     let stored : getD (set (a .changed .now) (layout.inputs ws + a .gate) (a .by)) (layout.inputs ws + a .gate) 0 ≡ a .by
-    = getD-set-same (a .changed .now) (layout.inputs ws + a .gate) (a .by) 0 (omega (arith, c .before .before .before .before .before .before .before .before .before .before .before .before .pre .1 .1 .long, few-sources ws (c .before .before .before .before .before .before .before .before .before .before .before .before .pre .0 .0), c .before .before .before .before .before .before .before .before .before .before .before .before .pre .1 .0)) in (
-      record { changed = c .before .before .before .before .follow .last .0; flipped = rw stored at (rw (c .before .before .before .before .before .before .before .before .before .before .inputs .ensures) at f); seen = c .before .before .output-lanes .ensures },
+    = getD-set-same (a .changed .now) (layout.inputs ws + a .gate) (a .by) 0
+    (omega (arith, s .pre .1 .1 .long, few-sources ws (s .pre .0 .0), s .pre .1 .0)) in (
+      record { changed = at-follow .last .0; flipped = rw stored at (rw (at-inputs .ensures) at f); seen = c .before .before .output-lanes .ensures },
       c .clear .ensures,
     )
 

@@ -1,8 +1,7 @@
 -- `counts::follow` meets its contract: the window is followed until it is empty. Assumes nothing.
-use Prim.Native.Nat.{ℕ, _+_, _-_, _≤_}
-use mathlib.Core.Path.{_≡_, refl, sym, ap, _∙_}
+use Prim.Native.Nat.{_+_, _-_}
+use mathlib.Core.Path.{_≡_, refl, _∙_}
 use native.Mathlib.Omega.{arith}
-use borrow.Author.Needs.{needs}
 use lib.ListN.{getD}
 use Rattle.area.specs.Layout as layout
 use Rattle.counts.specs.Counts.{Following}
@@ -22,10 +21,15 @@ loop-holds : tie.Need-loop-holds Inv-loop μ-loop
 loop-holds c = (refl, c .before .pre .1, refl)
 
 follow-gate-requires : tie.Need-follow-gate-requires Inv-loop μ-loop
-follow-gate-requires c κs = (c .before .before .before .before .before .pre .0, (c .before .if1 .taken, c .before .before .before .loop .inv .1))
+follow-gate-requires c κs =
+    let s = c .before .before .before .before .before in
+    let l = c .before .before .before .loop in
+    (s .pre .0, (c .before .if1 .taken, l .inv .1))
 
 loop-less : tie.Need-loop-less Inv-loop μ-loop
-loop-less c = omega (arith, c .follow-gate .ensures .0 .1, c .before .before .if1 .taken, c .before .before .before .before .loop .inv .1 .after .2)
+loop-less c =
+    let l = c .before .before .before .before .loop in
+    omega (arith, c .follow-gate .ensures .0 .1, c .before .before .if1 .taken, l .inv .1 .after .2)
 
 loop-again : tie.Need-loop-again Inv-loop μ-loop
 loop-again c =
@@ -39,11 +43,13 @@ loop-again c =
 
 returns : tie.Need-returns Inv-loop μ-loop
 returns c =
+    let s = c .before .before .before .before in
     let l = c .before .before .loop in
-    let a = c .before .before .before .before .args in
+    let a = s .args in
     let ws = a .area .now in
     let f = l .inv .1 in
-    let all = followed ws (a .words .now) (c .before .before .before .before .pre .0 .0) (l .window .flipped) (l .window .gate) (l .window .stop) (l .changed) (omega (arith, c .if1 .left)) f in
+    let w = l .window in
+    let all = followed ws (a .words .now) (s .pre .0 .0) (w .flipped) (w .gate) (w .stop) (l .changed) (omega (arith, c .if1 .left)) f in
     (rw (← l .inv .2) (rw (l .inv .0) at all), (f .after .2, f .stopped))
 
 pub follow-spec : {M : Type 1} → statement M

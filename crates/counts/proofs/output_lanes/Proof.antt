@@ -1,6 +1,6 @@
 -- `counts::output_lanes` meets its contract: output by output. Assumes nothing.
 use Prim.Native.Nat.{ℕ, _-_, _≤_, _<_}
-use mathlib.Core.Path.{_≡_, ap, _∙_}
+use mathlib.Core.Path.{ap, _∙_}
 use native.Mathlib.Omega.{arith}
 use borrow.Author.Needs.{needs}
 use lib.ListN.{getD, take}
@@ -27,30 +27,38 @@ loop-holds c = (omega arith, λ l less. lane-zero l)
 
 output-requires : tie.Need-output-requires Inv-loop μ-loop
 output-requires c κs =
-    let inside : c .before .loop .k < layout.outputs (c .before .before .before .before .args .area .now) = omega (arith, c .before .before .outputs .ensures) in
-    ((c .before .before .before .before .pre .gates-fit, omega (arith, c .before .before .before .before .pre .outputs-fit)), output-inside (c .before .before .before .before .args .area .now) (c .before .before .before .before .pre) (c .before .loop .k) inside)
+    let s = c .before .before .before .before in
+    let l = c .before .loop in
+    let inside : l .k < layout.outputs (s .args .area .now) = omega (arith, c .before .before .outputs .ensures) in
+    ((s .pre .gates-fit, omega (arith, s .pre .outputs-fit)), output-inside (s .args .area .now) (s .pre) (l .k) inside)
 
 word-of-requires : tie.Need-word-of-requires Inv-loop μ-loop
 word-of-requires c κs =
-    let inside : c .before .before .loop .k < layout.outputs (c .before .before .before .before .before .args .area .now) = omega (arith, c .before .before .before .outputs .ensures) in
-    omega (arith, c .output .ensures, output-source (c .before .before .before .before .before .args .area .now) (c .before .before .before .before .before .pre) (c .before .before .loop .k) inside, few-sources (c .before .before .before .before .before .args .area .now) (c .before .before .before .before .before .pre))
+    let s = c .before .before .before .before .before in
+    let at-outputs = c .before .before .before .outputs in
+    let l = c .before .before .loop in
+    let inside : l .k < layout.outputs (s .args .area .now) = omega (arith, at-outputs .ensures) in
+    omega (arith, c .output .ensures, output-source (s .args .area .now) (s .pre) (l .k) inside, few-sources (s .args .area .now) (s .pre))
 
 loop-again : tie.Need-loop-again Inv-loop μ-loop
 loop-again c =
+    let s = c .before .before .before .before .before .before in
+    let at-outputs = c .before .before .before .before .outputs in
     let l = c .before .before .before .loop in
-    let a = c .before .before .before .before .before .before .args in
-    let inside : l .k < layout.outputs (a .area .now) = omega (arith, c .before .before .before .before .outputs .ensures) in (
+    let a = s .args in
+    let inside : l .k < layout.outputs (a .area .now) = omega (arith, at-outputs .ensures) in (
       omega arith,
-      some-more (a .area .now) (c .before .before .before .before .before .before .pre) (a .changed .now) (l .k) (l .lanes) (c .word-of .result) inside
+      some-more (a .area .now) (s .pre) (a .changed .now) (l .k) (l .lanes) (c .word-of .result) inside
           (c .word-of .ensures ∙ ap (λ (o : ℕ). getD (a .changed .now) o 0) (c .before .output .ensures))
           (l .inv .1),
     )
 
 returns : tie.Need-returns Inv-loop μ-loop
 returns c =
+    let s = c .before .before .before .before in
     let l = c .before .loop in
-    let a = c .before .before .before .before .args in
-    rw (all-outputs (a .area .now) (c .before .before .before .before .pre) (l .k) (omega (arith, c .before .before .outputs .ensures))) at (l .inv .1)
+    let a = s .args in
+    rw (all-outputs (a .area .now) (s .pre) (l .k) (omega (arith, c .before .before .outputs .ensures))) at (l .inv .1)
 
 pub output-lanes-spec : {M : Type 1} → statement M
 output-lanes-spec =

@@ -1,6 +1,6 @@
 -- `counts::output_masks` meets its contract: output by output. Assumes nothing.
-use Prim.Native.Nat.{ℕ, _-_, _≤_, _<_}
-use mathlib.Core.Path.{_≡_, refl, _∙_}
+use Prim.Native.Nat.{_-_, _≤_, _<_}
+use mathlib.Core.Path.{refl}
 use native.Mathlib.Omega.{arith}
 use borrow.Author.Needs.{needs}
 use lib.ListN.{take}
@@ -28,33 +28,44 @@ loop-holds c = (omega arith, masks-none (c .before .before .args .by) _ refl (ze
 
 output-requires : tie.Need-output-requires Inv-loop μ-loop
 output-requires c κs =
-    let inside : c .before .loop .k < layout.outputs (c .before .before .before .before .args .area .now) = omega (arith, c .before .before .outputs .ensures) in
-    ((c .before .before .before .before .pre .gates-fit, omega (arith, c .before .before .before .before .pre .outputs-fit)), output-inside (c .before .before .before .before .args .area .now) (c .before .before .before .before .pre) (c .before .loop .k) inside)
+    let s = c .before .before .before .before in
+    let l = c .before .loop in
+    let inside : l .k < layout.outputs (s .args .area .now) = omega (arith, c .before .before .outputs .ensures) in
+    ((s .pre .gates-fit, omega (arith, s .pre .outputs-fit)), output-inside (s .args .area .now) (s .pre) (l .k) inside)
+
+-- an output names a source
+module _ (c : tie.After-index Inv-loop μ-loop) where
+  source-inside : c .index .result < mostSources
+  source-inside =
+      let s = c .before .before .before .before .before .before in
+      let ws = s .args .area .now in
+      let k = c .before .before .before .loop .k in
+      let inside : k < layout.outputs ws = omega (arith, c .before .before .before .before .outputs .ensures) in
+      omega (arith, c .index .ensures, c .before .output .ensures, output-source ws (s .pre) k inside, few-sources ws (s .pre))
 
 mul-masks : tie.Need-mul-masks Inv-loop μ-loop
-mul-masks c =
-    let inside : c .before .before .before .loop .k < layout.outputs (c .before .before .before .before .before .before .args .area .now) = omega (arith, c .before .before .before .before .outputs .ensures) in
-    omega (arith, c .index .ensures, c .before .output .ensures, output-source (c .before .before .before .before .before .before .args .area .now) (c .before .before .before .before .before .before .pre) (c .before .before .before .loop .k) inside, few-sources (c .before .before .before .before .before .before .args .area .now) (c .before .before .before .before .before .before .pre))
+mul-masks c = omega (arith, source-inside c)
 
 array-write-masks : tie.Need-array-write-masks Inv-loop μ-loop
-array-write-masks c =
-    let inside : c .before .before .before .loop .k < layout.outputs (c .before .before .before .before .before .before .args .area .now) = omega (arith, c .before .before .before .before .outputs .ensures) in
-    omega (arith, c .index .ensures, c .before .output .ensures, output-source (c .before .before .before .before .before .before .args .area .now) (c .before .before .before .before .before .before .pre) (c .before .before .before .loop .k) inside, few-sources (c .before .before .before .before .before .before .args .area .now) (c .before .before .before .before .before .before .pre))
+array-write-masks c = omega (arith, source-inside c)
 
 loop-again : tie.Need-loop-again Inv-loop μ-loop
 loop-again c =
+    let s = c .before .before .before .before .before .before in
+    let at-outputs = c .before .before .before .before .outputs in
     let l = c .before .before .before .loop in
-    let ws = c .before .before .before .before .before .before .args .area .now in
-    let inside : l .k < layout.outputs ws = omega (arith, c .before .before .before .before .outputs .ensures) in
-    let more = masks-more (c .before .before .before .before .before .before .args .by) (take (l .k) (layout.outputWords ws)) (l .masks) (layout.output ws (l .k))
-    (omega (arith, output-source ws (c .before .before .before .before .before .before .pre) (l .k) inside, few-sources ws (c .before .before .before .before .before .before .pre)))
+    let ws = s .args .area .now in
+    let inside : l .k < layout.outputs ws = omega (arith, at-outputs .ensures) in
+    let more = masks-more (s .args .by) (take (l .k) (layout.outputWords ws)) (l .masks) (layout.output ws (l .k))
+    (omega (arith, output-source ws (s .pre) (l .k) inside, few-sources ws (s .pre)))
     (l .inv .1) in
-    (omega arith, rw (next-output ws (c .before .before .before .before .before .before .pre) (l .k) inside, c .index .ensures, c .before .output .ensures) more)
+    (omega arith, rw (next-output ws (s .pre) (l .k) inside, c .index .ensures, c .before .output .ensures) more)
 
 returns : tie.Need-returns Inv-loop μ-loop
 returns c =
+    let s = c .before .before .before .before in
     let l = c .before .loop in
-    rw (all-outputs (c .before .before .before .before .args .area .now) (c .before .before .before .before .pre) (l .k) (omega (arith, c .before .before .outputs .ensures))) at (l .inv .1)
+    rw (all-outputs (s .args .area .now) (s .pre) (l .k) (omega (arith, c .before .before .outputs .ensures))) at (l .inv .1)
 
 pub output-masks-spec : {M : Type 1} → statement M
 output-masks-spec =

@@ -1,9 +1,9 @@
 -- `counts::zero_counts` meets its contract: the counts passed are 0. Assumes nothing.
-use Prim.Native.Nat.{ℕ, _+_, _-_, _≤_, _<_}
+use Prim.Native.Nat.{_-_, _≤_}
 use mathlib.Core.Path.{_≡_, refl, _∙_}
 use native.Mathlib.Omega.{arith}
 use borrow.Author.Needs.{needs}
-use lib.ListN.{length, getD, length-set}
+use lib.ListN.{length-set}
 use lib.Seq.{getD-set-same, getD-set-other}
 use Rattle.counts.specs.Counts.{Zeroed}
 use Rattle.counts.proofs.Windows.{is-or-not, by-order}

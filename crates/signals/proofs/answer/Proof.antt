@@ -13,24 +13,28 @@ returns c = rw (c .before .match .keys1) (c .answer-none .ensures)
 
 returns-2 : tie.Need-returns-2
 returns-2 c l less =
-    let four : length (c .before .before .args .t3) ≡ 4 = c .before .before .good .1 .1 .0 .1 .0 .1 in
-    rw (c .before .match .keys2) (c .answer-one .ensures l less ∙ ap (answer (c .before .before .args .table)) (lanes-of l 1 (c .before .before .args .t3) four))
+    let s = c .before .before in
+    let four : length (s .args .t3) ≡ 4 = s .good .1 .1 .0 .1 .0 .1 in
+    rw (c .before .match .keys2) (c .answer-one .ensures l less ∙ ap (answer (s .args .table)) (lanes-of l 1 (s .args .t3) four))
 
 returns-3 : tie.Need-returns-3
 returns-3 c l less =
-    let four : length (c .before .before .args .t3) ≡ 4 = c .before .before .good .1 .1 .0 .1 .0 .1 in
-    rw (c .before .match .keys3) (c .answer-two .ensures l less ∙ ap (answer (c .before .before .args .table)) (lanes-of l 2 (c .before .before .args .t3) four))
+    let s = c .before .before in
+    let four : length (s .args .t3) ≡ 4 = s .good .1 .1 .0 .1 .0 .1 in
+    rw (c .before .match .keys3) (c .answer-two .ensures l less ∙ ap (answer (s .args .table)) (lanes-of l 2 (s .args .t3) four))
 
 returns-4 : tie.Need-returns-4
 returns-4 c l less =
-    let four : length (c .before .before .args .t3) ≡ 4 = c .before .before .good .1 .1 .0 .1 .0 .1 in
-    rw (c .before .match .keys4) (c .answer-three .ensures l less ∙ ap (answer (c .before .before .args .table)) (lanes-of l 3 (c .before .before .args .t3) four))
+    let s = c .before .before in
+    let four : length (s .args .t3) ≡ 4 = s .good .1 .1 .0 .1 .0 .1 in
+    rw (c .before .match .keys4) (c .answer-three .ensures l less ∙ ap (answer (s .args .table)) (lanes-of l 3 (s .args .t3) four))
 
 returns-5 : tie.Need-returns-5
 returns-5 c l less =
-    let four : length (c .before .before .args .t3) ≡ 4 = c .before .before .good .1 .1 .0 .1 .0 .1 in
-    let all : c .before .before .args .count ≡ 4 = omega arith in
-    rw all (c .answer-four .ensures l less ∙ ap (answer (c .before .before .args .table)) (lanes-of l 4 (c .before .before .args .t3) four))
+    let s = c .before .before in
+    let four : length (s .args .t3) ≡ 4 = s .good .1 .1 .0 .1 .0 .1 in
+    let all : s .args .count ≡ 4 = omega arith in
+    rw all (c .answer-four .ensures l less ∙ ap (answer (s .args .table)) (lanes-of l 4 (s .args .t3) four))
 
 pub answer-spec : {M : Type 1} → statement M
 answer-spec =

@@ -11,7 +11,9 @@ returns : tie.Need-returns
 returns c l less =
     let a = c .before .before .before .args in
     c .select .ensures l less
-    ∙ by-last (a .table) (lane l (a .first) ∷ lane l (a .second) ∷ []) (lane l (a .third)) (c .before .before .answer-two .ensures l less) (c .before .answer-two2 .ensures l less)
+    ∙ by-last (a .table) (lane l (a .first) ∷ lane l (a .second) ∷ []) (lane l (a .third))
+    (c .before .before .answer-two .ensures l less)
+    (c .before .answer-two2 .ensures l less)
 
 pub answer-three-spec : {M : Type 1} → statement M
 answer-three-spec = tie.close (tie.spec (λ c κs. search needs) (λ c κs. search needs) (λ c κs. search needs) returns)

@@ -1,11 +1,12 @@
 -- `signals::gate_answer` meets its contract. Assumes nothing.
-use native.Mathlib.Omega.{arith}
 use borrow.Author.Needs.{needs}
 use Rattle.signals.proofs.gate_answer.Statement.{statement}
 use Rattle.signals.proofs.gate_answer.Tie as tie
 
 answer-requires : tie.Need-answer-requires
-answer-requires c κs = rw (c .pin-count .ensures) (c .before .before .before .pre .0 .gate (c .before .before .before .args .gate) (c .before .before .before .pre .1) .pin-count)
+answer-requires c κs =
+    let s = c .before .before .before in
+    rw (c .pin-count .ensures) (s .pre .0 .gate (s .args .gate) (s .pre .1) .pin-count)
 
 returns : tie.Need-returns
 returns c = rw (c .before .before .table .ensures, c .before .pin-count .ensures) at (c .answer .ensures)

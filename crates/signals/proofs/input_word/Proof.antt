@@ -1,14 +1,12 @@
 -- `signals::input_word` meets its contract: the word has the bits of the patterns from l on, the first of them lowest. Assumes nothing.
-use Prim.Native.Nat.{ℕ, zero, suc, _+_, _-_, _*_, _/_, _%_, _^_, _≤_, _<_}
-use mathlib.Core.List.{List}
-use mathlib.Core.Path.{_≡_, refl, sym, ap, subst, _∙_}
-use native.Mathlib.Nat.{pow-succ', sub-self, le-refl}
+use Prim.Native.Nat.{ℕ, suc, _+_, _-_, _*_, _/_, _^_, _≤_, _<_}
+use mathlib.Core.Path.{_≡_, ap, subst, _∙_}
+use native.Mathlib.Nat.{le-refl}
 use native.Mathlib.Omega.{arith}
 use borrow.Author.Needs.{needs}
 use lib.ListN.{length, getD}
 use lib.Pow.{pow-mono}
 use Rattle.figure.specs.Figure.{isOdd}
-use Rattle.signals.specs.Signals.{laneCount, lane}
 use Rattle.signals.proofs.Lanes.{Packed, packed-none, packed-more}
 use Rattle.signals.proofs.input_word.Statement.{statement}
 use Rattle.signals.proofs.input_word.Tie as tie
@@ -45,7 +43,8 @@ loop-again c =
     let l = c .before .before .loop in
     let a = c .before .before .before .args in
     let e : l .l ≡ suc (l .l - 1) = omega arith in
-    (omega arith, packed-more (a .patterns .now) (a .input) (l .word) (l .l - 1) (omega arith) (subst (Packed (a .patterns .now) (a .input) (l .word)) e (l .inv .1)))
+    let packed = subst (Packed (a .patterns .now) (a .input) (l .word)) e (l .inv .1) in
+    (omega arith, packed-more (a .patterns .now) (a .input) (l .word) (l .l - 1) (omega arith) packed)
 
 returns : tie.Need-returns Inv-loop μ-loop
 returns c l =

@@ -1,5 +1,5 @@
 -- `signals::input_words` meets its contract: the inputs passed have their words. Assumes nothing.
-use Prim.Native.Nat.{ℕ, _-_, _≤_}
+use Prim.Native.Nat.{_-_, _≤_}
 use mathlib.Core.Path.{_≡_, refl}
 use native.Mathlib.Omega.{arith}
 use borrow.Author.Needs.{needs}
@@ -18,13 +18,16 @@ loop-holds : tie.Need-loop-holds Inv-loop μ-loop
 loop-holds c = (omega arith, record { long = refl; input = λ l i h. absurd (omega arith) })
 
 input-word-requires : tie.Need-input-word-requires Inv-loop μ-loop
-input-word-requires c κs = (c .before .before .before .pre .0, omega (arith, c .before .before .before .pre .1))
+input-word-requires c κs =
+    let s = c .before .before .before in
+    (s .pre .0, omega (arith, s .pre .1))
 
 loop-again : tie.Need-loop-again Inv-loop μ-loop
 loop-again c =
     let l = c .before .before .loop in
     let s = c .before .before .before .before in
-    (omega arith, input-more (l .input) (s .args .patterns .now) (l .words) (c .input-word .result) (l .inv .1) (omega (arith, s .pre .1)) (c .input-word .ensures))
+    let word = c .input-word in
+    (omega arith, input-more (l .input) (s .args .patterns .now) (l .words) (word .result) (l .inv .1) (omega (arith, s .pre .1)) (word .ensures))
 
 returns : tie.Need-returns Inv-loop μ-loop
 returns c =

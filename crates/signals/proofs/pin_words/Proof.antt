@@ -21,17 +21,20 @@ word-of-requires-3 c κs =
 
 word-of-requires-4 : tie.Need-word-of-requires-4
 word-of-requires-4 c κs =
+    let at-pins = c .before .before .before .pins in
     let s = c .before .before .before .before .before in
-    rw (c .before .before .before .pins .ensures) (pin-source (s .args .area .now) (s .pre .0) (s .args .gate) (s .pre .1) 3)
+    rw (at-pins .ensures) (pin-source (s .args .area .now) (s .pre .0) (s .args .gate) (s .pre .1) 3)
 
 returns : tie.Need-returns
 returns c =
+    let at-pins = c .before .before .before .before .pins in
+    let at-word-of = c .before .before .before .word-of in
     rw (
-      c .before .before .before .word-of .ensures,
+      at-word-of .ensures,
       c .before .before .word-of2 .ensures,
       c .before .word-of3 .ensures,
       c .word-of4 .ensures,
-      c .before .before .before .before .pins .ensures,
+      at-pins .ensures,
     )
 
 pub pin-words-spec : {M : Type 1} → statement M

@@ -1,7 +1,7 @@
 -- `signals::right_words` meets its contract: the inputs and the gates passed have their words. Assumes nothing.
-use Prim.Native.Nat.{ℕ, _+_, _-_, _≤_, _<_}
+use Prim.Native.Nat.{_+_, _-_, _≤_, _<_}
 use mathlib.Core.List.{[]}
-use mathlib.Core.Path.{_≡_, sym, ap, subst}
+use mathlib.Core.Path.{_≡_}
 use native.Mathlib.Nat.{add-zero}
 use native.Mathlib.Omega.{arith}
 use borrow.Author.Needs.{needs}
@@ -21,44 +21,71 @@ abbrev μ-loop : tie.MeasureT-loop
 μ-loop area patterns inputs gates words₀ gate₀ words gate = gates - gate
 
 input-words-requires : tie.Need-input-words-requires Inv-loop μ-loop
-input-words-requires c κs = (c .before .before .before .before .pre .1, omega (arith, c .before .inputs .ensures, c .before .before .before .before .pre .0 .inputs-fit))
+input-words-requires c κs =
+    let s = c .before .before .before .before in
+    (s .pre .1, omega (arith, c .before .inputs .ensures, s .pre .0 .inputs-fit))
 
 loop-holds : tie.Need-loop-holds Inv-loop μ-loop
 loop-holds c =
-    let a = c .before .before .before .before .before .args in
+    let s = c .before .before .before .before .before in
+    let a = s .args in
     let ws = a .area .now in
-    let start = first-held ws (a .patterns .now) (c .before .before .before .before .before .pre .0) (c .input-words .result) (rw (c .before .before .inputs .ensures) at (c .input-words .ensures)) in
+    let start = first-held ws (a .patterns .now) (s .pre .0) (c .input-words .result) (rw (c .before .before .inputs .ensures) at (c .input-words .ensures)) in
     (omega arith, rw (add-zero (layout.inputs ws)) start)
 
 pin-words-requires : tie.Need-pin-words-requires Inv-loop μ-loop
-pin-words-requires c κs = (c .before .before .before .before .before .before .before .before .pre .0, omega (arith, c .before .before .before .before .gates .ensures))
+pin-words-requires c κs =
+    let s = c .before .before .before .before .before .before .before .before in
+    let at-gates = c .before .before .before .before .gates in
+    (s .pre .0, omega (arith, at-gates .ensures))
 
 gate-answer-requires : tie.Need-gate-answer-requires Inv-loop μ-loop
-gate-answer-requires c κs = (c .before .before .before .before .before .before .before .before .before .pre .0, omega (arith, c .before .before .before .before .before .gates .ensures))
+gate-answer-requires c κs =
+    let s = c .before .before .before .before .before .before .before .before .before in
+    let at-gates = c .before .before .before .before .before .gates in
+    (s .pre .0, omega (arith, at-gates .ensures))
 
 add-words : tie.Need-add-words Inv-loop μ-loop
-add-words c = omega (arith, c .before .before .before .before .before .before .gates .ensures, c .before .before .before .before .before .before .before .inputs .ensures, few-sources (c .before .before .before .before .before .before .before .before .before .before .args .area .now) (c .before .before .before .before .before .before .before .before .before .before .pre .0))
+add-words c =
+    let s = c .before .before .before .before .before .before .before .before .before .before in
+    let at-inputs = c .before .before .before .before .before .before .before .inputs in
+    let at-gates = c .before .before .before .before .before .before .gates in
+    omega (arith, at-gates .ensures, at-inputs .ensures, few-sources (s .args .area .now) (s .pre .0))
 
 mul-words : tie.Need-mul-words Inv-loop μ-loop
-mul-words c = omega (arith, c .before .before .before .before .before .before .gates .ensures, c .before .before .before .before .before .before .before .inputs .ensures, few-sources (c .before .before .before .before .before .before .before .before .before .before .args .area .now) (c .before .before .before .before .before .before .before .before .before .before .pre .0))
+mul-words c =
+    let s = c .before .before .before .before .before .before .before .before .before .before in
+    let at-inputs = c .before .before .before .before .before .before .before .inputs in
+    let at-gates = c .before .before .before .before .before .before .gates in
+    omega (arith, at-gates .ensures, at-inputs .ensures, few-sources (s .args .area .now) (s .pre .0))
 
 array-write-words : tie.Need-array-write-words Inv-loop μ-loop
-array-write-words c = omega (arith, c .before .before .before .before .before .before .gates .ensures, c .before .before .before .before .before .before .before .inputs .ensures, few-sources (c .before .before .before .before .before .before .before .before .before .before .args .area .now) (c .before .before .before .before .before .before .before .before .before .before .pre .0))
+array-write-words c =
+    let s = c .before .before .before .before .before .before .before .before .before .before in
+    let at-inputs = c .before .before .before .before .before .before .before .inputs in
+    let at-gates = c .before .before .before .before .before .before .gates in
+    omega (arith, at-gates .ensures, at-inputs .ensures, few-sources (s .args .area .now) (s .pre .0))
 
 loop-again : tie.Need-loop-again Inv-loop μ-loop
 loop-again c =
+    let s = c .before .before .before .before .before .before .before .before .before .before in
+    let at-inputs = c .before .before .before .before .before .before .before .inputs in
+    let at-gates = c .before .before .before .before .before .before .gates in
     let l = c .before .before .before .before .loop in
-    let a = c .before .before .before .before .before .before .before .before .before .before .args in
+    let a = s .args in
     let ws = a .area .now in
-    let inside : l .gate < layout.gates ws = omega (arith, c .before .before .before .before .before .before .gates .ensures) in
-    let worked = gate-held ws (a .patterns .now) (c .before .before .before .before .before .before .before .before .before .before .pre .0) (l .words) (c .gate-answer .result) (l .gate) inside (l .inv .1) (rw (c .before .pin-words .ensures) at (c .gate-answer .ensures)) in
-    (omega arith, rw (c .before .before .before .before .before .before .before .inputs .ensures) worked)
+    let inside : l .gate < layout.gates ws = omega (arith, at-gates .ensures) in
+    let answers = rw (c .before .pin-words .ensures) at (c .gate-answer .ensures) in
+    let worked = gate-held ws (a .patterns .now) (s .pre .0) (l .words) (c .gate-answer .result) (l .gate) inside (l .inv .1) answers in
+    (omega arith, rw (at-inputs .ensures) worked)
 
 returns : tie.Need-returns Inv-loop μ-loop
 returns c =
+    let s = c .before .before .before .before .before .before .before in
+    let at-gates = c .before .before .before .gates in
     let l = c .before .loop in
-    let ws = c .before .before .before .before .before .before .before .args .area .now in
-    let end : l .gate ≡ layout.gates ws = omega (arith, c .before .before .before .gates .ensures) in
+    let ws = s .args .area .now in
+    let end : l .gate ≡ layout.gates ws = omega (arith, at-gates .ensures) in
     rw end at (l .inv .1)
 
 pub right-words-spec : {M : Type 1} → statement M
