@@ -35,6 +35,12 @@ pub const CALL_FLIP: u8 = 11;
 
 pub const WEIGHTS: u8 = 12;
 
+pub const LIST_LENGTH: u8 = 15;
+
+pub const LISTED_PATTERN: u8 = 16;
+
+pub const COUNT_SLICE: u8 = 17;
+
 // Refused because of the state.
 pub const TOO_SHORT: u8 = 13;
 
