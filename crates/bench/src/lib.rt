@@ -1,11 +1,12 @@
-// The six calls of the bench. Each judges its input first: a refused call changes no word.
+// The calls of the bench. Each judges its input first: a refused call changes no word.
 ghost use mathlib.Core.Path.{_≡_};
-ghost use Prim.Native.Nat.{ℕ, _/_, _%_, _≤_, _<_};
+ghost use Prim.Native.Nat.{ℕ, _-_, _/_, _%_, _^_, _≤_, _<_};
 ghost use mathlib.Core.List.{List, [], _++_};
 ghost use lib.ListN.{length, getD, take, drop};
 ghost use Rattle.refusal.specs.Judgement.{otherwise, unlessRefused};
 ghost use Rattle.netlist.specs.Live.{liveGates};
 ghost use Rattle.area.specs.Net.{netOf};
+ghost use Rattle.area.specs.Layout as layout;
 ghost use Rattle.area.specs.Layout.{headWords, gates, outputs, needed, pattern, reliabilityWord, figure};
 ghost use Rattle.area.specs.Rules.{areaJudgement, NetSound, Workable};
 ghost use Rattle.calls.specs.Judgements as judged;
@@ -48,6 +49,11 @@ pub enum Averaged {
 
 pub enum GateRead {
     Done { right: u32, failure: u32 },
+    Refused(u8, u32),
+}
+
+pub enum Counted {
+    Done,
     Refused(u8, u32),
 }
 
@@ -136,6 +142,44 @@ fn judge_average(area: &[u32], weights: &[u32]) -> Judgement
 {
     match rules::judge(area) {
         Judgement::Fine => average::judge_weights(area::inputs(area), weights),
+        Judgement::Refused(number, place) => Judgement::Refused(number, place),
+    }
+}
+
+// The largest pattern of so many inputs.
+fn last_pattern(inputs: usize) -> u32
+    requires { ⌜ inputs ≤ layout.mostInputs ⌝ }
+    ensures { λ r. ⌜ r ≡ 2 ^ inputs - 1 ⌝ }
+{
+    (1 << inputs) - 1
+}
+
+// Refusals 15, 16 and 17 in their order: how many patterns, the lowest that is too large, fewer counts than gates.
+fn judge_listed(inputs: usize, gates: usize, patterns: &[u32], slots: usize) -> Judgement
+    requires { ⌜ inputs ≤ layout.mostInputs ⌝ }
+    ensures { λ r. ⌜ r ≡ judged.countsJudgement inputs gates (now (patterns .entry)) slots ⌝ }
+{
+    if patterns.len() < 1 || area::MOST_LISTED < patterns.len() {
+        return Judgement::Refused(refusal::LIST_LENGTH, 0);
+    }
+    match refusal::judge_each(patterns, last_pattern(inputs), refusal::LISTED_PATTERN) {
+        Judgement::Fine => {
+            if slots < gates {
+                return Judgement::Refused(refusal::COUNT_SLICE, 0);
+            }
+            Judgement::Fine
+        }
+        Judgement::Refused(number, place) => Judgement::Refused(number, place),
+    }
+}
+
+// The area's own refusal, then the list's and the slice's: the same for either method.
+fn judge_counts(area: &[u32], patterns: &[u32], slots: usize) -> Judgement
+    ensures { λ r. ⌜ r ≡ otherwise (areaJudgement (now (area .entry)))
+        (judged.countsJudgement (layout.inputs (now (area .entry))) (gates (now (area .entry))) (now (patterns .entry)) slots) ⌝ }
+{
+    match rules::judge(area) {
+        Judgement::Fine => judge_listed(area::inputs(area), area::gates(area), patterns, slots),
         Judgement::Refused(number, place) => Judgement::Refused(number, place),
     }
 }
