@@ -27,7 +27,7 @@ use Rattle.calls.specs.Judgements.{Call, open-image, toggle-input, set-f
 use Rattle.calls.specs.Judgements.{named, flipJudgement, weightJudgement, weightsJudgement, WeightsFit, listedJudgement, countsJudgement}
 use Rattle.calls.specs.Judgements.{openJudgement, argumentJudgement, lentJudgement}
 
--- ---- 10, 11, 12, 13, 17
+-- ---- 10 to 13, 15 to 17
 
 pub named-fine : (x count : ℕ) → named x count ≡ Fine → x < count
 named-fine x count e = ltb-true x count (unless-fine (ltb x count) 10 x e)
@@ -58,7 +58,7 @@ weights-fine n weights e =
       some = not-true _ (unless-fine _ 12 0 (later .1));
     }
 
--- a slice of counts that pass has one for each gate, and their list is not too long
+-- of a list and a slice that pass, what the work needs
 pub counts-fine : (n g : ℕ) (patterns : List ℕ) (slots : ℕ) → countsJudgement n g patterns slots ≡ Fine → (length patterns ≤ mostListed) × (g ≤ slots)
 unfolding countsJudgement
 counts-fine n g patterns slots e =

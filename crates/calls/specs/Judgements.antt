@@ -1,5 +1,5 @@
 -- A call as data, and the refusal that it gets, in document 01's order: at opening 1 to 8, then 9, then 13; elsewhere 13 and 14 of the area, then 10, 11,
--- 12, and of a list of patterns 15, 16, 17.
+-- 12; and, of document 02, card 1, 15, 16, 17.
 use Prim.Native.Nat.{ℕ, _-_, _^_, _≤_, _<_}
 use mathlib.Core.Bool.{false, not, _&&_}
 use mathlib.Core.List.{List}

@@ -1,5 +1,5 @@
--- Document 01's sheets with known results that are to be proved, as one table: conversions of chances, openings of images with what they come to, and
--- counts of the listed patterns in which a gate's flip is seen.
+-- Sheets with known results that are to be proved, as one table: document 01's conversions of chances and openings of images with what they come to, and
+-- for document 02, card 1, in how many listed patterns each gate's flip is seen.
 -- `SheetsHold` says that the definitions give the table; proofs/Sheets.antt proves it.
 use Prim.Native.Nat.{ℕ, _+_, _*_, _/_, _^_}
 use mathlib.Core.List.{List, [], _∷_, _++_, map}

@@ -1,4 +1,4 @@
-// Refusals: what is judged of an image, an area or a call's arguments, and the numbers of document 01.
+// Refusals: what is judged of an image, an area or a call's arguments, and the numbers of document 01 and of document 02, card 1.
 ghost use mathlib.Core.Path.{_≡_};
 ghost use Prim.Native.Nat.{_<_};
 ghost use lib.ListN.{length};
