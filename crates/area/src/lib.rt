@@ -173,6 +173,15 @@ pub fn outputs_index(gates: usize) -> usize
     HEAD_WORDS + GATE_WORDS * gates
 }
 
+// The source that an output reads.
+pub fn output(area: &[u32], k: usize) -> u32
+    requires { ⌜ (layout.gates (now area) ≤ layout.mostGates) × (k < layout.mostOutputs) ⌝ }
+    requires { ⌜ layout.outputsIndex (layout.gates (now area)) + k < length (now area) ⌝ }
+    ensures { λ r. ⌜ r ≡ layout.output (now (area .entry)) k ⌝ }
+{
+    area[outputs_index(gates(area)) + k]
+}
+
 // How many words so many gates and outputs need.
 pub fn needed(gates: usize, outputs: usize) -> usize
     requires { ⌜ (gates ≤ layout.mostGates) × (outputs ≤ layout.mostOutputs) ⌝ }
