@@ -1,5 +1,5 @@
 /*
- * The soft-error bench for C: six calls on a work area of 32-bit words.
+ * The soft-error bench for C: eight calls on a work area of 32-bit words.
  *
  * Link with target/staticlib/libbench_c.a, which `rt staticlib bench_c` writes (x86-64). Every
  * function below is proved to do what its contract in crates/bench_c/src/lib.rt says, for all
@@ -68,8 +68,8 @@
  *
  * Each call returns 0 when its work is done. Otherwise it refuses, and the returned number holds the
  * refusal: BENCH_NUMBER says which one, BENCH_PLACE where. A refused call has changed nothing: no
- * word of the area, and nothing that an out-pointer points to. Of several reasons the call gives the
- * first in the order that stands with it.
+ * word of the area, no count, and nothing that an out-pointer points to. Of several reasons the call
+ * gives the first in the order that stands with it.
  *
  * BENCH_REFUSED_... name the numbers.
  *
@@ -91,6 +91,9 @@
  *          else all of them zero                                               0; weight; 0
  *     13   the area is too short                                               0
  *     14   the area's words are not those of a netlist                         0
+ *     15   the list has no pattern, or more than 4096                          0
+ *     16   a listed pattern is 2^n or more, with n inputs                      position
+ *     17   there is room for fewer counts than the netlist has gates           0
  *
  * Where a place is a position in a list, it is the lowest one that is wrong.
  *
@@ -107,8 +110,9 @@
  * type will do. Pointers are aligned for their type. What one pointer of a call can write must not
  * overlap what another pointer of the same call names, and no other thread touches it meanwhile.
  *
- * bench_open takes up to 46 KB of stack, bench_average 38 KB, the other calls less. No call allocates
- * memory, and calls on different areas may run at the same time.
+ * bench_open takes up to 46 KB of stack, bench_average 38 KB, bench_counts_by_flip and
+ * bench_counts_by_mask @STACK@ KB, the other calls less. No call allocates memory, and calls on
+ * different areas may run at the same time.
  */
 #ifndef BENCH_H
 #define BENCH_H
@@ -121,7 +125,7 @@ extern "C" {
 #endif
 
 /* Raised with every change to a function, a number or a layout in this file. */
-#define BENCH_VERSION 1
+#define BENCH_VERSION 2
 
 #define BENCH_ONE UINT32_C(1073741824)
 #define BENCH_INPUTS_MAX 12
@@ -130,6 +134,7 @@ extern "C" {
 #define BENCH_PINS_MAX 4
 #define BENCH_IMAGE_MAX 32768
 #define BENCH_WEIGHT_MAX UINT32_C(1048575)
+#define BENCH_LISTED_MAX 4096
 #define BENCH_WORDS(gates, outputs) (8 + 8 * (size_t)(gates) + (size_t)(outputs))
 #define BENCH_WORDS_MAX BENCH_WORDS(BENCH_GATES_MAX, BENCH_OUTPUTS_MAX)
 
@@ -154,6 +159,9 @@ extern "C" {
 #define BENCH_REFUSED_WEIGHTS 12
 #define BENCH_REFUSED_SHORT_AREA 13
 #define BENCH_REFUSED_AREA 14
+#define BENCH_REFUSED_LIST 15
+#define BENCH_REFUSED_PATTERN 16
+#define BENCH_REFUSED_SHORT_COUNTS 17
 
 /*
  * Opens a netlist image in the area, with pattern 0 and every figure worked out. What the area held
@@ -227,6 +235,40 @@ uint64_t bench_read_gate(const uint32_t *area, size_t area_len, uint32_t gate, u
  * the place of the first weight above 1048575; 12 with place 0 where all weights are zero.
  */
 uint64_t bench_average(uint32_t *area, size_t area_len, const uint32_t *weights, size_t weights_len, uint32_t *units);
+
+/*
+ * For each gate, in how many of the listed patterns a flip of that gate alone makes some output wrong.
+ * The list has 1 to BENCH_LISTED_MAX patterns in any order; one that is listed twice counts twice.
+ * Right values are worked out for each listed pattern from pins and tables: the pattern, the flips and
+ * the figures that the area holds have no part in it.
+ *
+ * By the flip itself: the gate's value is inverted, the later gates get the values that their tables
+ * then give, and the pattern is counted where some output has not its right value. That holds for
+ * every area that 14 does not refuse, also for one with shared gates, which no opening would let in.
+ *
+ * Done: counts[j] is the count of gate j, for each of the netlist's gates; a dead gate's is 0. Counts
+ * past these are as before. The area and the list are only read.
+ *
+ * Refused, in this order: 13 and 14 of the area; 15; 16 with the place of the first such pattern; 17.
+ */
+uint64_t bench_counts_by_flip(const uint32_t *area, size_t area_len, const uint32_t *patterns, size_t patterns_len,
+                              uint32_t *counts, size_t counts_len);
+
+/*
+ * The same by masks that go back from the outputs. Under a pattern, with every right value known, a
+ * gate's mask is 1 where an output reads the gate, and where a used pin of a gate whose mask is 1
+ * reads it and that reader's answer changes when this pin alone is inverted. Else the mask is 0. The
+ * pattern is counted where the mask is 1.
+ *
+ * One way back tells of all gates, so it takes far less time than a flip for each. The counts are those
+ * of bench_counts_by_flip wherever 9 would not refuse the netlist, and so in every area that came from
+ * bench_open. With shared gates they may be more or fewer: of a gate on both pins of an XOR the flip is
+ * never seen at the output, yet each pin alone would pass it on, and so the gate's mask is 1.
+ *
+ * Done and refused: as bench_counts_by_flip.
+ */
+uint64_t bench_counts_by_mask(const uint32_t *area, size_t area_len, const uint32_t *patterns, size_t patterns_len,
+                              uint32_t *counts, size_t counts_len);
 
 #ifdef __cplusplus
 }

@@ -1,6 +1,7 @@
-/* Times the calls of the proved library beside the same steps written in C, on the same netlists in one run: open, toggle_input, set_flip and average
-   on forests of 2-, 3- and 4-pin gates, a chain, and a forest whose gates are mostly dead; 12 inputs, 1,024 gates. Build and run: speed/run-calls.
-   The C steps make the same checks as the library: refusals 1 to 9 and 13 at opening, 13 and 14 on every other call. */
+/* Times the calls of the proved library beside the same steps written in C, on the same netlists in one run: open, toggle_input, set_flip, average,
+   counts_by_flip and counts_by_mask on forests of 2-, 3- and 4-pin gates, a chain, and a forest whose gates are mostly dead; 12 inputs, 1,024 gates,
+   and 4,096 random patterns for the counts. Build and run: speed/run-calls.
+   The C steps make the same checks as the library: refusals 1 to 9 and 13 at opening, 13 and 14 on every other call, 15 to 17 before counting. */
 #include <math.h>
 #include <stdint.h>
 #include <stdio.h>
@@ -244,22 +245,179 @@ __attribute__((noinline)) static uint32_t c_average_gray(uint32_t *a, size_t len
     return (uint32_t)((2 * sum + total) / (2 * total));
 }
 
+/* ---- counts: 64 patterns in a word */
+
+#define SOURCES (N + G)
+
+static inline uint64_t row(uint32_t table, unsigned r) { return -(uint64_t)(table >> r & 1); }
+static inline uint64_t choose(uint64_t zero, uint64_t one, uint64_t by) { return zero ^ ((zero ^ one) & by); }
+
+/* the answers of the table's rows from r on, to one, two, three or four pins */
+static inline uint64_t of_one(uint32_t t, unsigned r, uint64_t a) { return choose(row(t, r), row(t, r + 1), a); }
+static inline uint64_t of_two(uint32_t t, unsigned r, uint64_t a, uint64_t b) { return choose(of_one(t, r, a), of_one(t, r + 2, a), b); }
+static inline uint64_t of_three(uint32_t t, unsigned r, uint64_t a, uint64_t b, uint64_t c) {
+    return choose(of_two(t, r, a, b), of_two(t, r + 4, a, b), c);
+}
+static inline uint64_t of_four(uint32_t t, uint64_t a, uint64_t b, uint64_t c, uint64_t d) {
+    return choose(of_three(t, 0, a, b, c), of_three(t, 8, a, b, c), d);
+}
+
+static inline uint64_t c_word(const uint32_t *g, const uint64_t *v) {
+    switch (g[0]) {
+    case 0: return row(g[1], 0);
+    case 1: return of_one(g[1], 0, v[g[2]]);
+    case 2: return of_two(g[1], 0, v[g[2]], v[g[3]]);
+    case 3: return of_three(g[1], 0, v[g[2]], v[g[3]], v[g[4]]);
+    default: return of_four(g[1], v[g[2]], v[g[3]], v[g[4]], v[g[5]]);
+    }
+}
+
+static uint64_t c_judge_list(const uint32_t *a, size_t len, const uint32_t *patterns, size_t many, size_t room) {
+    int no = c_judge(a, len);
+    if (no) return (uint64_t)no << 32;
+    if (many < 1 || many > 4096) return 15ull << 32;
+    for (size_t i = 0; i < many; i++) if (patterns[i] >= 1u << a[0]) return 16ull << 32 | i;
+    return room < a[1] ? 17ull << 32 : 0;
+}
+
+/* The right values under up to 64 patterns, one bit each. Returns the bits that are in use. */
+static uint64_t c_right_words(const uint32_t *a, const uint32_t *patterns, size_t many, uint64_t *right) {
+    if (many > 64) many = 64;
+    memset(right, 0, 8 * a[0]);
+    for (size_t b = 0; b < many; b++) for (uint32_t i = 0; i < a[0]; i++) right[i] |= (uint64_t)(patterns[b] >> i & 1) << b;
+    for (uint32_t j = 0; j < a[1]; j++) right[a[0] + j] = c_word(a + 8 + 8 * j, right);
+    return ~0ull >> (64 - many);
+}
+
+/* Flips gate j and follows it through the later gates: one that reads no changed word stays. Returns the patterns in which an output is wrong. */
+static inline uint64_t c_follow(const uint32_t *a, uint32_t j, const uint64_t *right, uint64_t *now, uint8_t *changed) {
+    uint32_t n = a[0], count = 0;
+    uint16_t list[G];
+    uint64_t seen = 0;
+    now[n + j] = ~right[n + j], changed[n + j] = 1, list[count++] = n + j;
+    for (uint32_t k = j + 1; k < a[1]; k++) {
+        const uint32_t *g = a + 8 + 8 * k;
+        if (!(changed[g[2]] | changed[g[3]] | changed[g[4]] | changed[g[5]])) continue; /* an unused pin holds 0 */
+        uint64_t word = c_word(g, now);
+        if (word != right[n + k]) now[n + k] = word, changed[n + k] = 1, list[count++] = n + k;
+    }
+    for (const uint32_t *o = a + 8 + 8 * a[1]; o < a + 8 + 8 * a[1] + a[2]; o++) seen |= now[*o] ^ right[*o];
+    while (count-- > 0) now[list[count]] = right[list[count]], changed[list[count]] = 0;
+    return seen;
+}
+
+__attribute__((noinline)) static uint64_t c_by_flip(const uint32_t *a, size_t len, const uint32_t *patterns, size_t many, uint32_t *counts, size_t room) {
+    uint64_t no = c_judge_list(a, len, patterns, many, room), right[SOURCES], now[SOURCES];
+    uint8_t changed[SOURCES] = {0};
+    if (no) return no;
+    memset(counts, 0, 4 * a[1]);
+    for (size_t from = 0; from < many; from += 64) {
+        uint64_t used = c_right_words(a, patterns + from, many - from, right);
+        memcpy(now, right, 8 * (a[0] + a[1]));
+        for (uint32_t j = 0; j < a[1]; j++) counts[j] += (uint32_t)__builtin_popcountll(c_follow(a, j, right, now, changed) & used);
+    }
+    return 0;
+}
+
+/* Passes a gate's mask on to what its pins read. A table xored with itself moved by a pin's weight says, where the pin is 0, whether the pin matters. */
+static inline void c_pass(const uint32_t *g, const uint64_t *v, uint64_t mask, uint64_t *masks) {
+    uint32_t t = g[1];
+    uint64_t p = v[g[2]], q = v[g[3]], r = v[g[4]], s = v[g[5]];
+    switch (g[0]) {
+    case 0: break;
+    case 1:
+        masks[g[2]] |= mask & of_one(t ^ t >> 1, 0, 0);
+        break;
+    case 2:
+        masks[g[2]] |= mask & of_two(t ^ t >> 1, 0, 0, q);
+        masks[g[3]] |= mask & of_two(t ^ t >> 2, 0, p, 0);
+        break;
+    case 3:
+        masks[g[2]] |= mask & of_three(t ^ t >> 1, 0, 0, q, r);
+        masks[g[3]] |= mask & of_three(t ^ t >> 2, 0, p, 0, r);
+        masks[g[4]] |= mask & of_three(t ^ t >> 4, 0, p, q, 0);
+        break;
+    default:
+        masks[g[2]] |= mask & of_four(t ^ t >> 1, 0, q, r, s);
+        masks[g[3]] |= mask & of_four(t ^ t >> 2, p, 0, r, s);
+        masks[g[4]] |= mask & of_four(t ^ t >> 4, p, q, 0, s);
+        masks[g[5]] |= mask & of_four(t ^ t >> 8, p, q, r, 0);
+    }
+}
+
+__attribute__((noinline)) static uint64_t c_by_mask(const uint32_t *a, size_t len, const uint32_t *patterns, size_t many, uint32_t *counts, size_t room) {
+    uint64_t no = c_judge_list(a, len, patterns, many, room), right[SOURCES], masks[SOURCES];
+    if (no) return no;
+    memset(counts, 0, 4 * a[1]);
+    for (size_t from = 0; from < many; from += 64) {
+        uint64_t used = c_right_words(a, patterns + from, many - from, right);
+        memset(masks, 0, 8 * (a[0] + a[1]));
+        for (uint32_t k = 0; k < a[2]; k++) masks[a[8 + 8 * a[1] + k]] = used;
+        for (uint32_t j = a[1]; j-- > 0;) {
+            uint64_t mask = masks[a[0] + j];
+            counts[j] += (uint32_t)__builtin_popcountll(mask);
+            if (mask) c_pass(a + 8 + 8 * j, right, mask, masks);
+        }
+    }
+    return 0;
+}
+
 /* ---- timing: the best of many short runs, taken in turn */
 
 static double now_ns(void) { struct timespec t; clock_gettime(CLOCK_MONOTONIC, &t); return t.tv_sec * 1e9 + t.tv_nsec; }
-#define TIME(best, runs, body) do { double t0 = now_ns(); for (int r_ = 0; r_ < (runs); r_++) { body; } double t_ = (now_ns() - t0) / (runs); if (t_ < best) best = t_; } while (0)
+#define TIME(best, runs, body) do { \
+        double t0 = now_ns(); \
+        for (int r_ = 0; r_ < (runs); r_++) { body; } \
+        double t_ = (now_ns() - t0) / (runs); \
+        if (t_ < best) best = t_; \
+    } while (0)
 
-static uint32_t mine[WORDS], theirs[WORDS], weights[4096];
+static uint32_t mine[WORDS], theirs[WORDS], weights[4096], listed[4096], my_counts[G], their_counts[G];
 
 static void same(const char *what) {
     if (memcmp(mine, theirs, sizeof mine)) { printf("%s: the areas differ\n", what); exit(1); }
 }
 
+static void same_counts(const char *what) {
+    if (memcmp(my_counts, their_counts, sizeof my_counts)) { printf("%s: the counts differ\n", what); exit(1); }
+}
+
+/* so that counts which a side does not write differ */
+static void part_counts(void) { memset(my_counts, 1, sizeof my_counts), memset(their_counts, 2, sizeof their_counts); }
+
+/* The best times of both ways to count, library and C after each other. */
+static void time_counts(double best[4]) {
+    for (int t = 0; t < 4; t++) best[t] = 1e18;
+    for (int t = 0; t < 3; t++) {
+        part_counts();
+        TIME(best[0], 1, bench_counts_by_flip(mine, WORDS, listed, 4096, my_counts, G));
+        TIME(best[1], 1, c_by_flip(mine, WORDS, listed, 4096, their_counts, G));
+        same_counts("by flip");
+    }
+    for (int t = 0; t < 8; t++) {
+        part_counts();
+        TIME(best[2], 1, bench_counts_by_mask(mine, WORDS, listed, 4096, my_counts, G));
+        TIME(best[3], 1, c_by_mask(mine, WORDS, listed, 4096, their_counts, G));
+        same_counts("by mask");
+    }
+}
+
+static void print_counts(const char *const names[5], double best[5][4]) {
+    printf("\n%-12s %10s %10s %6s | %10s %10s %6s\n", "netlist", "flip ms", "C", "ratio", "mask ms", "C", "ratio");
+    for (int kind = 0; kind < 5; kind++) {
+        const double *b = best[kind];
+        printf("%-12s %10.1f %10.1f %6.2f | %10.2f %10.2f %6.2f\n", names[kind], b[0] / 1e6, b[1] / 1e6, b[0] / b[1], b[2] / 1e6, b[3] / 1e6, b[2] / b[3]);
+    }
+}
+
 int main(void) {
+    double counted[5][4];
     const char *names[5] = {"forest2", "forest3", "forest4", "chain", "mostly dead"};
-    for (int q = 0; q < 4096; q++) weights[q] = 1;
-    printf("%-12s %10s %10s %6s | %10s %10s %6s | %10s %10s %6s | %9s %9s %9s %6s\n", "netlist", "open us", "C", "ratio", "toggle us", "C", "ratio", "set us", "C", "ratio",
-           "avg ms", "C all", "C Gray", "ratio");
+    uint64_t kept = seed;
+    for (int q = 0; q < 4096; q++) weights[q] = 1, listed[q] = next() % 4096;
+    seed = kept; /* so that the patterns do not change the netlists */
+    printf("%-12s %10s %10s %6s | %10s %10s %6s | %10s %10s %6s | %9s %9s %9s %6s\n", "netlist", "open us", "C", "ratio", "toggle us", "C", "ratio",
+           "set us", "C", "ratio", "avg ms", "C all", "C Gray", "ratio");
     for (int kind = 0; kind < 5; kind++) {
         make(kind < 3 ? 2 + kind : kind == 3 ? 2 : 3, kind == 3, kind == 4);
         memset(mine, 0, sizeof mine), memset(theirs, 0, sizeof theirs);
@@ -291,8 +449,10 @@ int main(void) {
             same("average");
         }
         double c = a2 < a3 ? a2 : a3;
-        printf("%-12s %10.1f %10.1f %6.2f | %10.2f %10.2f %6.2f | %10.2f %10.2f %6.2f | %9.1f %9.1f %9.1f %6.2f\n", names[kind], o1 / 1e3, o2 / 1e3, o1 / o2, t1 / 1e3, t2 / 1e3,
-               t1 / t2, s1 / 1e3, s2 / 1e3, s1 / s2, a1 / 1e6, a2 / 1e6, a3 / 1e6, a1 / c);
+        printf("%-12s %10.1f %10.1f %6.2f | %10.2f %10.2f %6.2f | %10.2f %10.2f %6.2f | %9.1f %9.1f %9.1f %6.2f\n", names[kind], o1 / 1e3, o2 / 1e3,
+               o1 / o2, t1 / 1e3, t2 / 1e3, t1 / t2, s1 / 1e3, s2 / 1e3, s1 / s2, a1 / 1e6, a2 / 1e6, a3 / 1e6, a1 / c);
+        time_counts(counted[kind]);
     }
+    print_counts(names, counted);
     return 0;
 }

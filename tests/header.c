@@ -73,9 +73,30 @@ static void calls(void) {
     expect("BENCH_REFUSED_AREA", bench_toggle_input(area, BENCH_WORDS(3, 1), 0), BENCH_REFUSED_AREA, 0);
 }
 
+typedef uint64_t Counts(const uint32_t *, size_t, const uint32_t *, size_t, uint32_t *, size_t);
+
+static void counts(Counts *by) {
+    static const uint32_t list[BENCH_LISTED_MAX + 1];
+    uint32_t four[4] = {0, 1, 2, 3}, seen[3];
+    size_t words = BENCH_WORDS(3, 1), most = BENCH_LISTED_MAX;
+    expect("the whole image", damaged(OUTPUT, 4), 0, 0);
+    expect("four patterns", by(area, words, four, 4, seen, 3), 0, 0);
+    if (seen[0] != 2 || seen[1] != 2 || seen[2] != 4) {
+        printf("header: four patterns: the library counts %u, %u, %u\n", seen[0], seen[1], seen[2]);
+        exit(1);
+    }
+    expect("BENCH_LISTED_MAX", by(area, words, list, most, seen, 3), 0, 0);
+    expect("BENCH_REFUSED_LIST", by(area, words, list, most + 1, seen, 3), BENCH_REFUSED_LIST, 0);
+    four[2] = 4;
+    expect("BENCH_REFUSED_PATTERN", by(area, words, four, 4, seen, 3), BENCH_REFUSED_PATTERN, 2);
+    expect("BENCH_REFUSED_SHORT_COUNTS", by(area, words, list, most, seen, 2), BENCH_REFUSED_SHORT_COUNTS, 0);
+}
+
 int main(void) {
     images();
     calls();
+    counts(bench_counts_by_flip);
+    counts(bench_counts_by_mask);
     printf("header: every name is the library's\n");
     return 0;
 }

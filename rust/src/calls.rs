@@ -1,4 +1,4 @@
-//! The six C functions of include/bench.h, each behind a safe function.
+//! The eight C functions of include/bench.h, each behind a safe function.
 
 use crate::{Flip, Refusal};
 
@@ -39,6 +39,22 @@ mod c {
             weights: *const u32,
             weights_len: usize,
             units: *mut u32,
+        ) -> u64;
+        pub fn bench_counts_by_flip(
+            area: *const u32,
+            area_len: usize,
+            patterns: *const u32,
+            patterns_len: usize,
+            counts: *mut u32,
+            counts_len: usize,
+        ) -> u64;
+        pub fn bench_counts_by_mask(
+            area: *const u32,
+            area_len: usize,
+            patterns: *const u32,
+            patterns_len: usize,
+            counts: *mut u32,
+            counts_len: usize,
         ) -> u64;
     }
 }
@@ -144,4 +160,50 @@ pub fn average(area: &mut [u32], weights: &[u32]) -> Result<u32, Refusal> {
         c::bench_average(area.as_mut_ptr(), area.len(), weights.as_ptr(), weights.len(), &mut units)
     };
     answer(returned, units)
+}
+
+/// Counts for each gate in how many of the listed patterns a flip of that gate alone makes some output
+/// wrong: `counts[j]` for gate j. Counts past those of the gates stay as they are.
+///
+/// The list has 1 to [`MAX_LISTED`](crate::MAX_LISTED) patterns, and one that is listed twice counts
+/// twice. The area's own pattern has no part in it. Every flip is followed to the outputs, also where
+/// gates are shared; [`counts_by_mask`] takes far less time.
+///
+/// Refused in this order: 13, 14, 15, 16, 17.
+pub fn counts_by_flip(area: &[u32], patterns: &[u32], counts: &mut [u32]) -> Result<(), Refusal> {
+    // SAFETY: the three slices go with their own lengths.
+    let returned = unsafe {
+        c::bench_counts_by_flip(
+            area.as_ptr(),
+            area.len(),
+            patterns.as_ptr(),
+            patterns.len(),
+            counts.as_mut_ptr(),
+            counts.len(),
+        )
+    };
+    answer(returned, ())
+}
+
+/// The same as [`counts_by_flip`] by masks that go back from the outputs. A gate's mask is 1 where an
+/// output reads it, and where it is read by a pin of a gate with mask 1 whose answer changes when that
+/// pin alone is inverted.
+///
+/// On every netlist that [`open`] lets in the counts are those by flip. In an area that came about in
+/// another way, with shared gates, they may be more or fewer.
+///
+/// Refused in this order: 13, 14, 15, 16, 17.
+pub fn counts_by_mask(area: &[u32], patterns: &[u32], counts: &mut [u32]) -> Result<(), Refusal> {
+    // SAFETY: the three slices go with their own lengths.
+    let returned = unsafe {
+        c::bench_counts_by_mask(
+            area.as_ptr(),
+            area.len(),
+            patterns.as_ptr(),
+            patterns.len(),
+            counts.as_mut_ptr(),
+            counts.len(),
+        )
+    };
+    answer(returned, ())
 }

@@ -1,4 +1,4 @@
-//! The proved soft-error bench for Rust: six calls on a work area that the caller owns, and netlist
+//! The proved soft-error bench for Rust: eight calls on a work area that the caller owns, and netlist
 //! images made from text.
 //!
 //! Every call answers a [`Result`]: its result, or a [`Refusal`] with the number and place that
@@ -33,6 +33,31 @@
 //! assert_eq!(refusal.to_string(), "refused 10 2: there is no input or gate 2");
 //! # Ok::<(), Box<dyn std::error::Error>>(())
 //! ```
+//!
+//! Which gate is worth hardening? The one whose flip makes an output wrong in the most patterns:
+//!
+//! ```
+//! use filzaod::{counts_by_flip, counts_by_mask, open, text, MAX_WORDS};
+//!
+//! let module = text::read(
+//!     "inputs 2
+//!      gate left 2 pins 0 chance 0.5
+//!      gate right 2 pins 1 chance 0.5
+//!      gate both 8 pins left right never
+//!      output both",
+//! )?;
+//! let mut area = vec![0; MAX_WORDS];
+//! open(&mut area, &module.image)?;
+//! let mut counts = [0; 3]; // one for each gate
+//! counts_by_mask(&area, &[0, 1, 2, 3], &mut counts)?;
+//! assert_eq!(counts, [2, 2, 4]);
+//! counts_by_flip(&area, &[3], &mut counts)?; // both inputs 1: every flip is seen
+//! assert_eq!(counts, [1, 1, 1]);
+//!
+//! let refusal = counts_by_mask(&area, &[3, 4], &mut counts).unwrap_err();
+//! assert_eq!((refusal.number, refusal.place), (16, 1)); // with two inputs there is no pattern 4
+//! # Ok::<(), Box<dyn std::error::Error>>(())
+//! ```
 
 mod calls;
 mod flip;
@@ -40,7 +65,8 @@ mod image;
 mod refusal;
 pub mod text;
 
-pub use calls::{average, open, read_gate, read_netlist, set_flip, toggle_input};
+pub use calls::{average, counts_by_flip, counts_by_mask};
+pub use calls::{open, read_gate, read_netlist, set_flip, toggle_input};
 pub use calls::{GateReading, NetlistReading};
 pub use flip::Flip;
 pub use refusal::Refusal;
@@ -57,6 +83,8 @@ pub const MAX_OUTPUTS: usize = 64;
 pub const MAX_IMAGE: usize = 32_768;
 /// The largest weight of a pattern in an average.
 pub const MAX_WEIGHT: u32 = 1_048_575;
+/// The most patterns that a list for counts has; it has one at least.
+pub const MAX_LISTED: usize = 4096;
 /// Words of an area that is long enough for every netlist.
 pub const MAX_WORDS: usize = words(MAX_GATES, MAX_OUTPUTS);
 

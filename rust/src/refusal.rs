@@ -36,6 +36,9 @@ impl fmt::Display for Refusal {
             12 => write!(f, "weights: not one for each pattern, one above 1,048,575, or all zero"),
             13 => write!(f, "the area is too short"),
             14 => write!(f, "the area's words are not those of a netlist"),
+            15 => write!(f, "the list has no pattern, or more than 4,096"),
+            16 => write!(f, "the pattern at {place} in the list is 2^n or more, with n inputs"),
+            17 => write!(f, "there is room for fewer counts than the netlist has gates"),
             _ => write!(f, "unknown to this package"),
         }
     }

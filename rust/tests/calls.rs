@@ -1,7 +1,8 @@
-//! The six calls through the safe functions: what they answer, and that a refused one changes nothing.
+//! The eight calls through the safe functions: what they answer, and that a refused one changes nothing.
 
-use filzaod::{average, open, read_gate, read_netlist, set_flip, text, toggle_input, words};
-use filzaod::{Flip, GateReading, Refusal, MAX_WEIGHT, MAX_WORDS, ONE};
+use filzaod::{average, counts_by_flip, counts_by_mask};
+use filzaod::{open, read_gate, read_netlist, set_flip, text, toggle_input, words};
+use filzaod::{Flip, GateReading, Refusal, MAX_LISTED, MAX_WEIGHT, MAX_WORDS, ONE};
 
 const WORDS: usize = words(3, 1);
 const UNTOUCHED: u32 = 0x5AFE_C0DE;
@@ -90,6 +91,57 @@ fn refused_calls_have_number_and_place() {
     refused(area, 14, 0, |area| set_flip(area, 9, Flip::Never));
 }
 
+type Counting = fn(&[u32], &[u32], &mut [u32]) -> Result<(), Refusal>;
+
+const METHODS: [Counting; 2] = [counts_by_flip, counts_by_mask];
+
+#[test]
+fn counts_of_the_gates() {
+    let area = opened();
+    for count in METHODS {
+        let mut counts = [UNTOUCHED; 4];
+        assert_eq!(count(&area, &[0, 1, 2, 3], &mut counts), Ok(()));
+        assert_eq!(counts, [2, 2, 4, UNTOUCHED]);
+        assert_eq!(count(&area, &[1; MAX_LISTED], &mut counts[..3]), Ok(()));
+        assert_eq!(counts, [0, 4096, 4096, UNTOUCHED]);
+    }
+    assert_eq!(area, opened());
+}
+
+#[test]
+fn counts_where_a_gate_is_shared() {
+    // A buffer on both pins of an XOR, which no opening would let in.
+    let area = [1, 2, 1, 0, 0, 0, 0, 0, 1, 2, 0, 0, 0, 0, 0, 0, 2, 6, 1, 1, 0, 0, 0, 0, 2];
+    let [flips, masks] = METHODS.map(|count| {
+        let mut counts = [UNTOUCHED; 2];
+        assert_eq!(count(&area, &[0, 1], &mut counts), Ok(()));
+        counts
+    });
+    assert_eq!((flips, masks), ([0, 2], [2, 2]));
+}
+
+/// That both methods are refused so, and write no count.
+fn counts_refused(area: &[u32], number: u8, place: u32, patterns: &[u32], room: usize) {
+    for count in METHODS {
+        let mut counts = [UNTOUCHED; 3];
+        let answer = count(area, patterns, &mut counts[..room]);
+        assert_eq!(answer, Err(Refusal { number, place }));
+        assert_eq!(counts, [UNTOUCHED; 3]);
+    }
+}
+
+#[test]
+fn refused_counts_have_number_and_place() {
+    let mut area = opened();
+    counts_refused(&area, 15, 0, &[], 0);
+    counts_refused(&area, 15, 0, &[4; MAX_LISTED + 1], 3);
+    counts_refused(&area, 16, 1, &[3, 4, u32::MAX], 0);
+    counts_refused(&area, 17, 0, &[3], 2);
+    counts_refused(&area[..WORDS - 1], 13, 0, &[], 0);
+    area[7] = 1;
+    counts_refused(&area, 14, 0, &[], 0);
+}
+
 /// The printed sheet's image with some bytes from `at` on changed.
 fn damaged(at: usize, bytes: &[u8]) -> Vec<u8> {
     let mut image = printed_sheet();
@@ -120,13 +172,13 @@ fn refused_images_have_number_and_place() {
 
 #[test]
 fn every_refusal_can_be_read() {
-    for number in 1..=14 {
+    for number in 1..=17 {
         let said = Refusal { number, place: 77 }.to_string();
         assert!(said.starts_with(&format!("refused {number} 77: ")), "{said}");
         assert!(said.len() > 20 && !said.contains("unknown"), "{said}");
-        let named = matches!(number, 5..=11);
+        let named = matches!(number, 5..=11 | 16);
         assert_eq!(said.matches("77").count(), if named { 2 } else { 1 }, "{said}");
     }
-    let later = Refusal { number: 15, place: 0 };
-    assert_eq!(later.to_string(), "refused 15 0: unknown to this package");
+    let later = Refusal { number: 18, place: 0 };
+    assert_eq!(later.to_string(), "refused 18 0: unknown to this package");
 }

@@ -3,6 +3,7 @@ use Prim.Native.Nat.{ℕ, zero, suc, _+_, _-_, _^_, _≤_, _<_, min}
 use mathlib.Core.Bool.{Bool, true, false, cond}
 use mathlib.Core.List.{List, [], _∷_, _++_}
 use mathlib.Core.Path.{_≡_, refl, sym, ap, ap₂, subst, _∙_}
+use native.Mathlib.Nat.{le-min}
 use native.Mathlib.Omega.{arith}
 use lib.Count.{ones}
 use lib.ListN.{length, getD, set, take, drop, replicate, length-set, length-append, length-take, length-drop, List·getD-append}
@@ -15,7 +16,7 @@ use Rattle.netlist.specs.Netlist.{Netlist}
 use Rattle.netlist.specs.Seen.{seenBy, seenCount, seenCounts}
 use Rattle.area.specs.Layout.{mostPatterns}
 use Rattle.signals.specs.Signals.{laneCount, lane, InEachLane}
-use Rattle.counts.specs.Counts.{inList, CountsReady, CountsAdded}
+use Rattle.counts.specs.Counts.{inList, Zeroed, CountsReady, CountsAdded}
 use Rattle.counts.proofs.Windows.{is-or-not, by-order}
 use Rattle.counts.proofs.Listed.{ones-listed}
 
@@ -81,6 +82,9 @@ module _ (method : Method) (net : Netlist) (patterns entry : List ℕ) where
     pub counted : (j : ℕ) → j < length (net .gates) → getD counts j 0 ≡ seenCount method net (take at patterns) j
     pub past : (j : ℕ) → length (net .gates) ≤ j → getD counts j 0 ≡ getD entry j 0
 
+  pub counted-start : ((j : ℕ) → j < length (net .gates) → getD entry j 0 ≡ 0) → CountedTo 0 entry
+  counted-start none = record { long = refl; counted = none; past = λ j l. refl }
+
   -- a list has at most as many that pass as it is long
   where-few : (t : ℕ → Bool) (xs : List ℕ) → countWhere t xs ≤ length xs
   where-few t [] = omega arith
@@ -127,14 +131,18 @@ module _ (method : Method) (net : Netlist) (patterns entry : List ℕ) where
     where
       g : ℕ
       g = length (net .gates)
+
       listed : List ℕ
       listed = joined (λ (j : ℕ). seenCount method net patterns j ∷ []) g
+
       whole : List ℕ
       whole = listed ++ drop g entry
+
       here : (i : ℕ) → i < g → getD whole i 0 ≡ seenCount method net patterns i
       here i h =
           List·getD-append listed (drop g entry) 0 i (omega (arith, length-listed (seenCount method net patterns) g))
           ∙ listed-at (seenCount method net patterns) g i h
+
       later : (i : ℕ) → g ≤ i → getD whole i 0 ≡ getD entry i 0
       later i h =
           let e : i ≡ length listed + (i - g) = omega (arith, length-listed (seenCount method net patterns) g) in
@@ -143,3 +151,13 @@ module _ (method : Method) (net : Netlist) (patterns entry : List ℕ) where
           ∙ getD-append-add listed (drop g entry) (i - g) 0
           ∙ getD-drop g entry (i - g) 0
           ∙ ap (λ (k : ℕ). getD entry k 0) back
+
+-- what lies past the counts made 0 is as it was
+pub drop-zeroed : (g : ℕ) (old new : List ℕ) → Zeroed g old new → drop g new ≡ drop g old
+drop-zeroed g old new z =
+    ext-getD 0 (drop g new) (drop g old) (omega (arith, length-drop g new, length-drop g old, z .long))
+    (λ i l. getD-drop g new i 0 ∙ z .past (g + i) (omega arith) ∙ sym (getD-drop g old i 0))
+
+-- a block has a pattern where any is left
+pub next-end : (at size : ℕ) → at < size → at < min (at + 64) size
+next-end at size h = le-min {k = suc at} {a = at + 64} {b = size} (omega arith) h

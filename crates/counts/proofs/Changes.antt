@@ -35,6 +35,7 @@ module _ (ws words changed by : List ℕ) (sound : NetSound ws) (j : ℕ) (insid
       -- the word of pin i
       word : (i : ℕ) → i < mostPins → getD by i 0 ≡ 0 → getD changed (getD (pins ws j) i 0) 0 ≡ getD by i 0 → getD changed (pin ws j i) 0 ≡ 0
       word i few e has = ap (λ (p : ℕ). getD changed p 0) (pin-at ws j i few) ∙ has ∙ e
+
       go : (i : ℕ) → getD by 0 0 ≡ 0 → getD by 1 0 ≡ 0 → getD by 2 0 ≡ 0 → getD by 3 0 ≡ 0 → i < mostPins → getD changed (pin ws j i) 0 ≡ 0
       go zero a b c d few = word 0 few a (sym (ap (λ (xs : List ℕ). getD xs 0 0) read))
       go (suc zero) a b c d few = word 1 few b (sym (ap (λ (xs : List ℕ). getD xs 1 0) read))
@@ -46,8 +47,8 @@ module _ (ws words changed by : List ℕ) (sound : NetSound ws) (j : ℕ) (insid
   pub changed-difference : (have : List ℕ) (answered right l : ℕ)
       → have ≡ map (λ (p : ℕ). getD words p 0) (pins ws j)
       → lane l answered ≡ answer (table ws j) (pinLanes l (pinCount ws j) (
-        bitXor (getD have 0 0) (getD by 0 0) ∷ bitXor (getD have 1 0) (getD by 1 0) ∷ bitXor (getD have 2 0) (getD by 2 0)
-        ∷ bitXor (getD have 3 0) (getD by 3 0) ∷ []))
+      bitXor (getD have 0 0) (getD by 0 0) ∷ bitXor (getD have 1 0) (getD by 1 0) ∷ bitXor (getD have 2 0) (getD by 2 0)
+      ∷ bitXor (getD have 3 0) (getD by 3 0) ∷ []))
       → lane l right ≡ rightAnswer ws words j l
       → lane l (bitXor answered right) ≡ differ (changedAnswer ws words changed j l) (rightAnswer ws words j l)
   changed-difference have answered right l had answers rights =

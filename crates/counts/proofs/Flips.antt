@@ -120,8 +120,10 @@ module _ (ws patterns words : List ℕ) (sound : NetSound ws) (held : WordsHold 
         at : (b : Bool) → getD flips m false ≡ b → {x : Bool} → x ≡ differ (invertIf b (changedAnswer ws words changed m l)) (rightAnswer ws words m l)
             → x ≡ differ (invertIf (getD flips m false) (changedAnswer ws words changed m l)) (rightAnswer ws words m l)
         at b e h = h ∙ ap (λ (c : Bool). differ (invertIf c (changedAnswer ws words changed m l)) (rightAnswer ws words m l)) (sym e)
+
         zero-here : getD changed (inputs ws + m) 0 ≡ 0 → lane l (getD changed (inputs ws + m) 0) ≡ false
         zero-here e = ap (lane l) e ∙ lane-zero l
+
         go : lane l (getD changed (inputs ws + m) 0) ≡ differ (invertIf (getD flips m false) (changedAnswer ws words changed m l)) (rightAnswer ws words m l)
         go =
             is-or-not m j

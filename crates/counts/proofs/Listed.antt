@@ -53,7 +53,7 @@ ones-listed t (suc k) w [] small few lanes =
       low-lane w,
       ap bitOf (lanes 0 (omega arith) ∙ ap (λ (b : Bool). b && t 0) (le-ltb 0 0 (omega arith))),
       ones-listed t k (w / 2) [] (omega (arith, pow-succ' 2 k)) (omega arith)
-      (λ l h. halved-lane l w ∙ lanes (suc l) (omega arith) ∙ ap (λ (b : Bool). b && t 0) (le-ltb (suc l) 0 (omega arith) ∙ sym (le-ltb l 0 (omega arith)))),
+          (λ l h. halved-lane l w ∙ lanes (suc l) (omega arith) ∙ ap (λ (b : Bool). b && t 0) (le-ltb (suc l) 0 (omega arith) ∙ sym (le-ltb l 0 (omega arith)))),
     )
 ones-listed t (suc k) w (q ∷ patterns) small few lanes =
     omega (
@@ -62,7 +62,7 @@ ones-listed t (suc k) w (q ∷ patterns) small few lanes =
       low-lane w,
       ap bitOf (lanes 0 (omega arith) ∙ ap (λ (b : Bool). b && t q) (lt-ltb 0 (suc (length patterns)) (omega arith))),
       ones-listed t k (w / 2) patterns (omega (arith, pow-succ' 2 k)) (omega arith)
-      (λ l h. halved-lane l w ∙ lanes (suc l) (omega arith) ∙ ap (λ (b : Bool). b && t (getD patterns l 0)) (ltb-suc l (length patterns))),
+          (λ l h. halved-lane l w ∙ lanes (suc l) (omega arith) ∙ ap (λ (b : Bool). b && t (getD patterns l 0)) (ltb-suc l (length patterns))),
     )
 
 pub add-none : (counts : List ℕ) (j w : ℕ) → w ≡ 0 → counts ≡ set counts j (getD counts j 0 + ones w)

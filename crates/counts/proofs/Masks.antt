@@ -63,6 +63,7 @@ module _ (by : ℕ) where
       read o =
           let e : count o (os ++ (o ∷ [])) ≡ suc (count o os) = omega (arith, count-append o os (o ∷ []), count-self o []) in
           ap isLive e
+
       not-read : (s : ℕ) → (s ≡ o → ⊥) → count s (os ++ (o ∷ [])) ≡ count s os
       not-read s other = count-append s os (o ∷ []) ∙ ap (λ (n : ℕ). count s os + n) (count-other s o [] other) ∙ add-zero (count s os)
 
@@ -143,10 +144,13 @@ module _ (ws words : List ℕ) (sound : NetSound ws) (j : ℕ) (inside : j < gat
       where
         p : ℕ
         p = pin ws j i
+
         joined-word : ℕ
         joined-word = bitOr (getD new p 0) (bitAnd word mask)
+
         t : ℕ → Bool
         t l = sensitive (table ws j) (map (λ (p : ℕ). lane l (getD words p 0)) (usedPins ws j)) i
+
         here : (l : ℕ) → l < laneCount → lane l (getD (set new p joined-word) p 0)
             ≡ lane l (getD old p 0) || (lane l (getD old (inputs ws + j) 0) && isLive (count p (sensitiveIn ws words j l (i + 1))))
         here l less =
@@ -159,6 +163,7 @@ module _ (ws words : List ℕ) (sound : NetSound ws) (j : ℕ) (inside : j < gat
             ∙ ap isLive (count-append p (sensitiveIn ws words j l i) (cond (t l) (p ∷ []) []))
             ∙ live-sum (count p (sensitiveIn ws words j l i)) (count p (cond (t l) (p ∷ []) []))
             ∙ ap (λ (b : Bool). isLive (count p (sensitiveIn ws words j l i)) || b) (single-here p (t l))))
+
         elsewhere : (l s : ℕ) → l < laneCount → (s ≡ p → ⊥) → lane l (getD (set new p joined-word) s 0)
             ≡ lane l (getD old s 0) || (lane l (getD old (inputs ws + j) 0) && isLive (count s (sensitiveIn ws words j l (i + 1))))
         elsewhere l s less other =
@@ -187,8 +192,10 @@ module _ (ws patterns : List ℕ) where
     where
       net : Netlist
       net = netOf ws [] []
+
       no-gates : drop (gates ws) (net .gates) ≡ []
       no-gates = ap (λ (k : ℕ). drop k (net .gates)) (sym (gate-count ws [] [])) ∙ drop-length (net .gates)
+
       chosen : (l : ℕ) → l < laneCount → (b : Bool) → lane l (cond b by 0) ≡ ltb l (length patterns) && b
       chosen l less true = lanes l less ∙ sym (and-true (ltb l (length patterns)))
         where
@@ -249,9 +256,11 @@ module _ (ws patterns : List ℕ) where
       where
         sens : ℕ → List ℕ
         sens l = sensitivePins (rightIn net patterns l) (gateAt net j)
+
         out : (i a b c : Bool) → (i && a) || ((i && b) && c) ≡ i && (a || (b && c))
         out true a b c = refl
         out false a b c = refl
+
         reads : (l s : ℕ) → isLive (count s (maskReadsFrom (rightIn net patterns l) (net .outputs) (net .inputs + j) (drop j (net .gates))))
             ≡ isLive (count s (rest l)) || (isLive (count (inputs ws + j) (rest l)) && isLive (count s (sens l)))
         reads l s =

@@ -197,6 +197,7 @@ module _ (ws words : List ℕ) (sound : NetSound ws) where
               (λ z. z)
               (λ some. absurd (omega (arith, f .reached m i (omega arith) here used (λ z. omega arith))))
               (eq-zero-or-pos (getD changed (pin ws m i) 0)))
+
           go : (b : Bool) → eqb (gate + 1) stop ≡ b
               → Following ws words j (cond b (max (gate + 1) (getD first source 0)) (gate + 1)) (max stop (getD end source 0)) stored
           go true e = pass-to (gate + 1) (getD first source 0) (max stop (getD end source 0)) stored follow-changed (none (eqb-true (gate + 1) stop e))
@@ -227,8 +228,10 @@ module _ (ws words : List ℕ) (sound : NetSound ws) where
       where
         source : ℕ
         source = inputs ws + j
+
         stored : List ℕ
         stored = set changed source by
+
         elsewhere : (s : ℕ) → s ≢ source → getD stored s 0 ≡ 0
         elsewhere s other = getD-set-other changed source s by 0 other ∙ none .none s
 
@@ -237,10 +240,10 @@ module _ (ws words : List ℕ) (sound : NetSound ws) where
         → Flipped ws words j (getD changed (inputs ws + j) 0) changed
     followed gate stop changed empty f =
         let all =
-            pass-over (gates ws) gate stop changed f
-            (λ m i h less here used.
-            ⊎-elim
-            (λ z. z)
-            (λ some. absurd (omega (arith, f .reached m i h here used (λ z. omega arith))))
-            (eq-zero-or-pos (getD changed (pin ws m i) 0))) in
+        pass-over (gates ws) gate stop changed f
+        (λ m i h less here used.
+        ⊎-elim
+        (λ z. z)
+        (λ some. absurd (omega (arith, f .reached m i h here used (λ z. omega arith))))
+        (eq-zero-or-pos (getD changed (pin ws m i) 0))) in
         record { long = f .long; before = f .before; start = refl; settled = λ m after inside. all .settled m after (omega arith) inside }

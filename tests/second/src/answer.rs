@@ -1,5 +1,7 @@
-//! What a call answers, and the six calls as one trait, so that the model and the library can be
+//! What a call answers, and the eight calls as one trait, so that the model and the library can be
 //! driven by the same code.
+
+use crate::counts::Method;
 
 /// The answer of any call.
 #[derive(Clone, Copy, Debug, PartialEq, Eq)]
@@ -41,7 +43,7 @@ pub struct GateReading {
     pub failure: u32,
 }
 
-/// The six calls.
+/// The eight calls; both methods of counting stand under one name.
 pub trait Bench {
     fn open(&self, area: &mut [u32], image: &[u8]) -> Answer<u32>;
     fn toggle_input(&self, area: &mut [u32], input: u32) -> Answer<()>;
@@ -49,4 +51,11 @@ pub trait Bench {
     fn read_netlist(&self, area: &[u32]) -> Answer<NetlistReading>;
     fn read_gate(&self, area: &[u32], gate: u32) -> Answer<GateReading>;
     fn average(&self, area: &mut [u32], weights: &[u32]) -> Answer<u32>;
+    fn counts(
+        &self,
+        method: Method,
+        area: &[u32],
+        patterns: &[u32],
+        counts: &mut [u32],
+    ) -> Answer<()>;
 }

@@ -1,6 +1,7 @@
 //! Random arguments for the calls, good ones mostly.
 
 use crate::compare::Call;
+use crate::counts::{Method, MAX_LISTED};
 use crate::images::{bad_flip, damage, good_draft, good_flip, noise, Size};
 use crate::model::{Counts, HEAD, MAX_WEIGHT};
 use crate::random::Random;
@@ -45,6 +46,49 @@ pub fn weights(random: &mut Random, inputs: u32) -> Vec<u32> {
     weights
 }
 
+/// A list of patterns, with the faults of refusals 15 and 16 now and then. A list without the first
+/// of them has at most `most`.
+pub fn patterns(random: &mut Random, inputs: u32, most: u64) -> Vec<u32> {
+    let length = match random.below(16) {
+        0 => random.pick(&[0, MAX_LISTED as u64 + 1]),
+        1 => most,
+        _ => random.between(1, most),
+    };
+    let end = 1u32 << inputs;
+    let mut patterns: Vec<u32> = (0..length).map(|_| random.below(u64::from(end)) as u32).collect();
+    if random.once_in(8) && !patterns.is_empty() {
+        // One or two that are too large, or the largest that is not.
+        for _ in 0..random.between(1, 2) {
+            let at = random.index(patterns.len());
+            patterns[at] = random.pick(&[end - 1, end, end, end + 1, 1 << 31, u32::MAX]);
+        }
+    }
+    patterns
+}
+
+/// The length of a slice for the counts: that of the gates mostly, or some words more or fewer.
+pub fn room(random: &mut Random, gates: u32) -> usize {
+    let gates = gates as usize;
+    match random.below(12) {
+        0 => gates.saturating_sub(1),
+        1 => random.index(gates + 1),
+        2..=4 => gates + 1 + random.index(5),
+        _ => gates,
+    }
+}
+
+/// Counts on an area with these counts; the fewer patterns, the more work each of them is.
+pub fn counting(random: &mut Random, counts: Counts, method: Method) -> Call {
+    let gates = u64::from(counts.gates) + 1;
+    let work = match method {
+        Method::Flip => gates * gates / 2 + 1,
+        Method::Mask => gates,
+    };
+    let most = (4_000 / work).clamp(1, 130);
+    let patterns = patterns(random, counts.inputs, most);
+    Call::Counts { method, patterns, room: room(random, counts.gates) }
+}
+
 /// An image: whole, damaged in one to three ways, or noise.
 pub fn image(random: &mut Random, size: Size) -> Vec<u8> {
     let mut draft = good_draft(random, size);
@@ -79,7 +123,7 @@ pub fn lent(random: &mut Random, all: usize, needs: usize) -> usize {
 /// Any call on an area with these counts. Averages cost a whole evaluation for each pattern, so they
 /// are made only where `averages` allows.
 pub fn call(random: &mut Random, counts: Counts, size: Size, averages: bool) -> Call {
-    match random.below(20) {
+    match random.below(22) {
         0..=5 => Call::Toggle(name(random, counts.inputs)),
         6..=10 => {
             let (kind, field) = flip(random);
@@ -89,6 +133,8 @@ pub fn call(random: &mut Random, counts: Counts, size: Size, averages: bool) -> 
         13..=15 => Call::ReadGate(name(random, counts.gates)),
         16..=18 if averages => Call::Average(weights(random, counts.inputs)),
         16..=18 => Call::Toggle(name(random, counts.inputs)),
+        19 => counting(random, counts, Method::Flip),
+        20 => counting(random, counts, Method::Mask),
         _ => Call::Open(image(random, size)),
     }
 }

@@ -2,6 +2,7 @@
 //! lent area's length, and never a word of the area or an answer.
 
 use crate::compare::Call;
+use crate::counts;
 use crate::exact::ExactSums;
 use crate::model::{self, flip_chance, Counts, Model, Netlist, Refusal};
 
@@ -57,6 +58,9 @@ impl Book {
             }
             Call::ReadGate(gate) => named_exists(*gate, self.counts().gates)?,
             Call::Average(weights) => model::judge_weights(self.netlist.inputs, weights)?,
+            Call::Counts { patterns, room, .. } => {
+                counts::judge_list(self.counts(), patterns, *room)?
+            }
         }
         Ok(())
     }

@@ -1,6 +1,7 @@
 //! One call made on the library and on the model, and everything compared that a caller can see.
 
 use crate::answer::{Answer, Bench, GateReading, NetlistReading};
+use crate::counts::Method;
 use crate::ffi::Library;
 use crate::model::Model;
 
@@ -9,14 +10,32 @@ use crate::model::Model;
 pub enum Call {
     Open(Vec<u8>),
     Toggle(u32),
-    Set { gate: u32, kind: u8, field: [u8; 8] },
+    Set {
+        gate: u32,
+        kind: u8,
+        field: [u8; 8],
+    },
     ReadNetlist,
     ReadGate(u32),
     Average(Vec<u32>),
+    /// `room` is the length of the slice that is lent for the counts.
+    Counts {
+        method: Method,
+        patterns: Vec<u32>,
+        room: usize,
+    },
 }
 
-pub const CALL_NAMES: [&str; 6] =
-    ["open", "toggle input", "set flip", "read netlist", "read gate", "average"];
+pub const CALL_NAMES: [&str; 8] = [
+    "open",
+    "toggle input",
+    "set flip",
+    "read netlist",
+    "read gate",
+    "average",
+    "counts by flip",
+    "counts by mask",
+];
 
 impl Call {
     /// The row of this call in a tally.
@@ -28,12 +47,14 @@ impl Call {
             Call::ReadNetlist => 3,
             Call::ReadGate(_) => 4,
             Call::Average(_) => 5,
+            Call::Counts { method: Method::Flip, .. } => 6,
+            Call::Counts { method: Method::Mask, .. } => 7,
         }
     }
 }
 
-/// A call's answer.
-#[derive(Clone, Copy, Debug, PartialEq, Eq)]
+/// A call's answer, and what it left in a slice that was lent for its results.
+#[derive(Clone, Debug, PartialEq, Eq)]
 pub enum Reply {
     Open(Answer<u32>),
     Toggle(Answer<()>),
@@ -41,6 +62,7 @@ pub enum Reply {
     ReadNetlist(Answer<NetlistReading>),
     ReadGate(Answer<GateReading>),
     Average(Answer<u32>),
+    Counts { answer: Answer<()>, counts: Vec<u32> },
 }
 
 impl Reply {
@@ -49,6 +71,7 @@ impl Reply {
         match self {
             Reply::Open(answer) | Reply::Average(answer) => answer.number(),
             Reply::Toggle(answer) | Reply::Set(answer) => answer.number(),
+            Reply::Counts { answer, .. } => answer.number(),
             Reply::ReadNetlist(answer) => answer.number(),
             Reply::ReadGate(answer) => answer.number(),
         }
@@ -65,6 +88,7 @@ impl Reply {
         match self {
             Reply::Open(answer) | Reply::Average(answer) => of(answer),
             Reply::Toggle(answer) | Reply::Set(answer) => of(answer),
+            Reply::Counts { answer, .. } => of(answer),
             Reply::ReadNetlist(answer) => of(answer),
             Reply::ReadGate(answer) => of(answer),
         }
@@ -80,13 +104,44 @@ pub fn perform(bench: &dyn Bench, area: &mut [u32], call: &Call) -> Reply {
         Call::ReadNetlist => Reply::ReadNetlist(bench.read_netlist(area)),
         Call::ReadGate(gate) => Reply::ReadGate(bench.read_gate(area, *gate)),
         Call::Average(weights) => Reply::Average(bench.average(area, weights)),
+        Call::Counts { method, patterns, room } => {
+            let (answer, counts) = count(bench, *method, area, patterns, *room);
+            Reply::Counts { answer, counts }
+        }
     }
+}
+
+/// Counts into a slice of `room` words that stands between guard words, and gives the slice as well.
+pub fn count(
+    bench: &dyn Bench,
+    method: Method,
+    area: &[u32],
+    patterns: &[u32],
+    room: usize,
+) -> (Answer<()>, Vec<u32>) {
+    let before = unwritten(room + 2 * GUARD);
+    let mut guarded = before.clone();
+    let answer = bench.counts(method, area, patterns, &mut guarded[GUARD..GUARD + room]);
+    let guards_hold =
+        guarded[..GUARD] == before[..GUARD] && guarded[GUARD + room..] == before[GUARD + room..];
+    assert!(guards_hold, "{method:?} wrote outside the {room} counts");
+    (answer, guarded[GUARD..GUARD + room].to_vec())
+}
+
+/// Words that are no counts, each one another.
+fn unwritten(length: usize) -> Vec<u32> {
+    (GUARD_WORD..).take(length).collect()
+}
+
+/// What a slice lent for counts holds at first.
+pub fn lent_counts(room: usize) -> Vec<u32> {
+    unwritten(room + GUARD).split_off(GUARD)
 }
 
 /// How often each call gave each answer: row by call, column by refusal number, column 0 for done.
 #[derive(Default)]
 pub struct Tally {
-    pub counts: [[u64; 15]; 6],
+    pub counts: [[u64; 18]; CALL_NAMES.len()],
 }
 
 impl Tally {
@@ -112,13 +167,15 @@ impl Tally {
 
     /// Every answer that a call can give must have been seen at least `times` times.
     pub fn assert_all_seen(&self, times: u64) {
-        let possible: [&[usize]; 6] = [
+        let possible: [&[usize]; CALL_NAMES.len()] = [
             &[0, 1, 2, 3, 4, 5, 6, 7, 8, 9, 13],
             &[0, 10, 13, 14],
             &[0, 10, 11, 13, 14],
             &[0, 13, 14],
             &[0, 10, 13, 14],
             &[0, 12, 13, 14],
+            &[0, 13, 14, 15, 16, 17],
+            &[0, 13, 14, 15, 16, 17],
         ];
         for (row, numbers) in possible.iter().enumerate() {
             for (number, seen) in self.counts[row].iter().enumerate() {

@@ -225,7 +225,7 @@ impl ExactSums {
 }
 
 /// The outputs' values, bit by bit, when exactly the gates in `flips` flip.
-fn outputs_under(netlist: &Netlist, pattern: u32, flips: u32) -> Vec<u32> {
+pub fn outputs_under(netlist: &Netlist, pattern: u32, flips: u32) -> Vec<u32> {
     let mut values: Vec<u32> = (0..netlist.inputs).map(|input| (pattern >> input) & 1).collect();
     for (number, gate) in netlist.gates.iter().enumerate() {
         let mut row = 0;

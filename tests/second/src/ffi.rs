@@ -1,6 +1,7 @@
-//! The proved library's six C functions, each behind a safe function with the enum as its answer.
+//! The proved library's eight C functions, each behind a safe function with the enum as its answer.
 
 use crate::answer::{Answer, Bench, GateReading, NetlistReading};
+use crate::counts::Method;
 
 mod c {
     extern "C" {
@@ -39,6 +40,22 @@ mod c {
             weights: *const u32,
             weights_len: usize,
             units: *mut u32,
+        ) -> u64;
+        pub fn bench_counts_by_flip(
+            area: *const u32,
+            area_len: usize,
+            patterns: *const u32,
+            patterns_len: usize,
+            counts: *mut u32,
+            counts_len: usize,
+        ) -> u64;
+        pub fn bench_counts_by_mask(
+            area: *const u32,
+            area_len: usize,
+            patterns: *const u32,
+            patterns_len: usize,
+            counts: *mut u32,
+            counts_len: usize,
         ) -> u64;
     }
 }
@@ -116,6 +133,26 @@ pub fn average(area: &mut [u32], weights: &[u32]) -> Answer<u32> {
     answer(returned, units == UNTOUCHED, units)
 }
 
+pub fn counts(method: Method, area: &[u32], patterns: &[u32], counts: &mut [u32]) -> Answer<()> {
+    let before = counts.to_vec();
+    let function = match method {
+        Method::Flip => c::bench_counts_by_flip,
+        Method::Mask => c::bench_counts_by_mask,
+    };
+    // SAFETY: the three slices are passed with their own lengths.
+    let returned = unsafe {
+        function(
+            area.as_ptr(),
+            area.len(),
+            patterns.as_ptr(),
+            patterns.len(),
+            counts.as_mut_ptr(),
+            counts.len(),
+        )
+    };
+    answer(returned, before == counts, ())
+}
+
 /// The library as a bench.
 pub struct Library;
 
@@ -137,5 +174,14 @@ impl Bench for Library {
     }
     fn average(&self, area: &mut [u32], weights: &[u32]) -> Answer<u32> {
         average(area, weights)
+    }
+    fn counts(
+        &self,
+        method: Method,
+        area: &[u32],
+        patterns: &[u32],
+        slice: &mut [u32],
+    ) -> Answer<()> {
+        counts(method, area, patterns, slice)
     }
 }

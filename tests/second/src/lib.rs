@@ -18,6 +18,7 @@ pub mod answer;
 pub mod arguments;
 pub mod book;
 pub mod compare;
+pub mod counts;
 pub mod exact;
 pub mod ffi;
 pub mod images;

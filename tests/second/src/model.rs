@@ -2,6 +2,7 @@
 //! dependence are fixpoints, figures are worked out step by step, floats are taken apart as bits.
 
 use crate::answer::{Answer, Bench, GateReading, NetlistReading};
+use crate::counts::{self, Method};
 
 /// One, in units.
 pub const U: u64 = 1 << 30;
@@ -397,7 +398,8 @@ impl Counts {
         HEAD + GATE_WORDS * self.gates as usize + self.outputs as usize
     }
 
-    fn of(area: &[u32]) -> Counts {
+    /// What an area's first words say.
+    pub fn of(area: &[u32]) -> Counts {
         Counts { inputs: area[0], gates: area[1], outputs: area[2] }
     }
 }
@@ -663,6 +665,19 @@ impl Model {
     }
 }
 
+fn try_counts(
+    method: Method,
+    area: &[u32],
+    patterns: &[u32],
+    slice: &mut [u32],
+) -> Result<(), Refusal> {
+    let counts = judge_area(area)?;
+    counts::judge_list(counts, patterns, slice.len())?;
+    let seen = counts::count(method, area, counts, patterns);
+    slice[..seen.len()].copy_from_slice(&seen);
+    Ok(())
+}
+
 /// Refusal 12.
 pub fn judge_weights(inputs: u32, weights: &[u32]) -> Result<(), Refusal> {
     if weights.len() != 1 << inputs {
@@ -695,5 +710,14 @@ impl Bench for Model {
     }
     fn average(&self, area: &mut [u32], weights: &[u32]) -> Answer<u32> {
         answered(self.try_average(area, weights))
+    }
+    fn counts(
+        &self,
+        method: Method,
+        area: &[u32],
+        patterns: &[u32],
+        slice: &mut [u32],
+    ) -> Answer<()> {
+        answered(try_counts(method, area, patterns, slice))
     }
 }

@@ -1,7 +1,8 @@
-//! The model behind the library's six names, so that every test can run against itself. With
+//! The model behind the library's eight names, so that every test can run against itself. With
 //! `FAULT=name` in the environment it errs in one way, to show that the tests notice.
 
 use crate::answer::{Answer, Bench};
+use crate::counts::{self, Method};
 use crate::model::{self, Counts, Model, Rounding, Variant, PATTERN, RELIABILITY};
 use std::sync::OnceLock;
 
@@ -46,9 +47,23 @@ enum Fault {
     TwoUnitsOff,
     /// The live count includes dead gates.
     AllLive,
+    /// A list is filled up to whole words of 64 patterns, and all of these are counted.
+    LastWord,
+    /// A dead gate's flip is counted in every pattern.
+    DeadSeen,
+    /// Flips are counted by their masks.
+    FlipsByMask,
+    /// Counts are made under the area's own pattern.
+    OwnPattern,
+    /// A pattern that is listed twice counts once.
+    RepeatsOnce,
+    /// Counts past those of the gates are cleared.
+    CountsPastEnd,
+    /// A slice that is too short for the counts is cleared.
+    CountsRefused,
 }
 
-const FAULTS: [(&str, Fault); 19] = [
+const FAULTS: [(&str, Fault); 26] = [
     ("round_down", Fault::RoundDown),
     ("half_even", Fault::HalfEven),
     ("dead_readers", Fault::DeadReaders),
@@ -68,6 +83,13 @@ const FAULTS: [(&str, Fault); 19] = [
     ("average_even", Fault::AverageEven),
     ("two_units_off", Fault::TwoUnitsOff),
     ("all_live", Fault::AllLive),
+    ("last_word", Fault::LastWord),
+    ("dead_seen", Fault::DeadSeen),
+    ("flips_by_mask", Fault::FlipsByMask),
+    ("own_pattern", Fault::OwnPattern),
+    ("repeats_once", Fault::RepeatsOnce),
+    ("counts_past_end", Fault::CountsPastEnd),
+    ("counts_refused", Fault::CountsRefused),
 ];
 
 fn fault() -> Fault {
@@ -254,4 +276,74 @@ pub unsafe extern "C" fn bench_average(
         *units = average;
     }
     encode(&answer)
+}
+
+/// # Safety
+/// As for `bench_open`.
+#[no_mangle]
+pub unsafe extern "C" fn bench_counts_by_flip(
+    area: *const u32,
+    area_len: usize,
+    patterns: *const u32,
+    patterns_len: usize,
+    counts: *mut u32,
+    counts_len: usize,
+) -> u64 {
+    let area = std::slice::from_raw_parts(area, area_len);
+    let patterns = std::slice::from_raw_parts(patterns, patterns_len);
+    let slice = std::slice::from_raw_parts_mut(counts, counts_len);
+    let method = if fault() == Fault::FlipsByMask { Method::Mask } else { Method::Flip };
+    counts_by(method, area, patterns, slice)
+}
+
+/// # Safety
+/// As for `bench_open`.
+#[no_mangle]
+pub unsafe extern "C" fn bench_counts_by_mask(
+    area: *const u32,
+    area_len: usize,
+    patterns: *const u32,
+    patterns_len: usize,
+    counts: *mut u32,
+    counts_len: usize,
+) -> u64 {
+    let area = std::slice::from_raw_parts(area, area_len);
+    let patterns = std::slice::from_raw_parts(patterns, patterns_len);
+    let slice = std::slice::from_raw_parts_mut(counts, counts_len);
+    counts_by(Method::Mask, area, patterns, slice)
+}
+
+fn counts_by(method: Method, area: &[u32], patterns: &[u32], slice: &mut [u32]) -> u64 {
+    let answer = bench().counts(method, area, patterns, slice);
+    match (fault(), answer) {
+        (Fault::CountsRefused, Answer::Refused { number: 17, .. }) => slice.fill(0),
+        (_, Answer::Done(())) => spoil_counts(method, area, patterns, slice),
+        _ => {}
+    }
+    encode(&answer)
+}
+
+fn spoil_counts(method: Method, area: &[u32], patterns: &[u32], slice: &mut [u32]) {
+    let of_area = Counts::of(area);
+    let (seen, past) = slice.split_at_mut(of_area.gates as usize);
+    let mut list = patterns.to_vec();
+    match fault() {
+        Fault::LastWord => list.resize(list.len().next_multiple_of(64), 0),
+        Fault::OwnPattern => list.fill(area[PATTERN]),
+        Fault::RepeatsOnce => {
+            list.sort();
+            list.dedup();
+        }
+        Fault::DeadSeen => {
+            let live = counts::live(area, of_area);
+            for (count, _) in seen.iter_mut().zip(live).filter(|(_, live)| !live) {
+                *count = list.len() as u32;
+            }
+        }
+        Fault::CountsPastEnd => past.fill(0),
+        _ => {}
+    }
+    if list != patterns {
+        seen.copy_from_slice(&counts::count(method, area, of_area, &list));
+    }
 }

@@ -1,11 +1,12 @@
 //! Lists of calls on small netlists. After each call the reliability must lie near the exact sum over
-//! all flip patterns, and each average near the exact one; what is refused is judged by the book.
+//! all flip patterns, and each average near the exact one; each count must be the number of patterns
+//! in which that gate's flip changes an output; what is refused is judged by the book.
 //! The library alone is driven here, so that these bounds do not lean on the model's figures.
 
 use second::arguments;
 use second::book::Book;
-use second::compare::{perform, Call, Reply, CALL_NAMES};
-use second::exact::{self, Big};
+use second::compare::{lent_counts, perform, Call, Reply, CALL_NAMES};
+use second::exact::{self, outputs_under, Big};
 use second::ffi::Library;
 use second::images::{bad_flip, good_draft, good_flip, Size};
 use second::model::{self, Counts};
@@ -20,10 +21,12 @@ const WORDS: usize = 8 + 8 * 10 + 4 + 5;
 
 #[derive(Default)]
 struct Seen {
-    calls: [u64; 6],
+    calls: [u64; CALL_NAMES.len()],
     refused: u64,
     reliabilities: u64,
     averages: u64,
+    /// Gates whose counts were compared.
+    counts: u64,
     /// The largest distance for each live gate, in thousandths of a unit.
     widest: u64,
 }
@@ -40,8 +43,9 @@ fn after_any_list_the_figures_are_near_the_exact_ones() {
     }
     println!("{} of them refused", seen.refused);
     println!("{} reliabilities and {} averages within bounds", seen.reliabilities, seen.averages);
+    println!("{} counts of gates are those of their flips", seen.counts);
     println!("widest distance: 0.{:03} units for each live gate", seen.widest);
-    assert!(seen.averages >= 1_000);
+    assert!(seen.averages >= 1_000 && seen.counts >= 10_000);
 }
 
 fn one_list(random: &mut Random, seen: &mut Seen) {
@@ -102,8 +106,22 @@ fn check_result(call: &Call, reply: &Reply, book: &Book, seen: &mut Seen) {
         (Call::ReadNetlist, Reply::ReadNetlist(answer)) => {
             assert_eq!(answer.done().pattern, book.pattern);
         }
+        (Call::Counts { patterns, room, .. }, Reply::Counts { counts, .. }) => {
+            let mut wanted = lent_counts(*room);
+            for (gate, count) in wanted.iter_mut().enumerate().take(book.netlist.gates.len()) {
+                *count =
+                    patterns.iter().filter(|pattern| shows(book, gate, **pattern)).count() as u32;
+                seen.counts += 1;
+            }
+            assert_eq!(*counts, wanted, "{call:?} on {:?}", book.netlist);
+        }
         _ => {}
     }
+}
+
+/// Whether the flip of one gate alone changes an output.
+fn shows(book: &Book, gate: usize, pattern: u32) -> bool {
+    outputs_under(&book.netlist, pattern, 1 << gate) != outputs_under(&book.netlist, pattern, 0)
 }
 
 /// The terms of an exact sum are complete, for chances of every kind.

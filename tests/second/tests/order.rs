@@ -2,7 +2,9 @@
 //! here and not taken from the model.
 
 use second::answer::Answer;
-use second::ffi;
+use second::compare::{count, lent_counts};
+use second::counts::{Method, MAX_LISTED, METHODS};
+use second::ffi::{self, Library};
 use second::images::{chance, Draft, Record, NEVER};
 use second::model::{gate_at, FIGURE, FLIP, PINS, U};
 
@@ -280,4 +282,60 @@ fn weights_length_then_size_then_zero() {
         assert_eq!(ffi::average(&mut area, weights), expected, "{weights:?}");
     }
     assert_eq!(ffi::average(&mut area, &[0, 0, 0, over - 1]), Answer::Done(U as u32));
+}
+
+/// The conditions of counting after those of the area, in the order in which they are tried.
+const LIST: u32 = 16;
+const PATTERN: u32 = 32;
+const ROOM: u32 = 64;
+
+#[test]
+fn in_counting_the_first_of_any_set_wins() {
+    for rule in 0..rule_faults().len() {
+        for set in 0..128u32 {
+            for method in METHODS {
+                check_counting(set, rule, method);
+            }
+        }
+    }
+}
+
+fn check_counting(set: u32, rule: usize, method: Method) {
+    let area = spoilt_area(set, rule);
+    let before = area.clone();
+    let room = if set & ROOM != 0 { 2 } else { 4 };
+    let expected = match set {
+        _ if set & (BELOW_EIGHT | COUNTS | SHORT | RULE) != 0 => expected(set, (), 0, (0, 0)),
+        _ if set & LIST != 0 => Answer::Refused { number: 15, place: 0 },
+        _ if set & PATTERN != 0 => Answer::Refused { number: 16, place: 2 },
+        _ if set & ROOM != 0 => Answer::Refused { number: 17, place: 0 },
+        _ => Answer::Done(()),
+    };
+    let mut counts = lent_counts(room);
+    if set == 0 {
+        counts[..3].copy_from_slice(&[2, 2, 4]);
+    }
+    for list in spoilt_lists(set) {
+        let told = format!("{method:?}, {} patterns, set {set:#b}, rule {rule}", list.len());
+        let found = count(&Library, method, &area, &list, room);
+        assert_eq!(found, (expected, counts.clone()), "{told}");
+        assert_eq!(area, before, "{told}");
+    }
+}
+
+/// The lists with the chosen faults: an empty one has no pattern that could be too large.
+fn spoilt_lists(set: u32) -> Vec<Vec<u32>> {
+    let mut list = vec![0, 1, 2, 3];
+    if set & PATTERN != 0 {
+        list = vec![0, 1, 4, u32::MAX];
+    }
+    if set & LIST == 0 {
+        return vec![list];
+    }
+    list.resize(MAX_LISTED + 1, 3);
+    if set & PATTERN == 0 {
+        vec![vec![], list]
+    } else {
+        vec![list]
+    }
 }

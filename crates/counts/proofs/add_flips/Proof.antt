@@ -47,8 +47,7 @@ loop-holds c =
 flip-lanes-requires : tie.Need-flip-lanes-requires Inv-loop μ-loop
 flip-lanes-requires c κs =
     let a = c .before .before .before .before .before .before .before .before .before .before .before .before .before .before .before .args in
-    let ws = a .area .now in
-    (
+    let ws = a .area .now in (
       (c .before .before .before .before .before .before .before .before .before .before .before .before .before .before .before .pre .0 .0, words-worked ws (a .patterns .now) (c .before .before .before .before .before .before .before .before .before .before .before .right-words .result) (c .before .before .before .before .before .before .before .before .before .before .before .before .before .before .before .pre .0 .0) (c .before .before .before .before .before .before .before .before .before .before .before .right-words .ensures), c .before .before .before .before .before .before .before .before .enter-gates .ensures),
       (omega (arith, c .before .before .before .before .before .before .gates .ensures), c .before .before .before .before .before .loop .inv .1),
     )
@@ -71,8 +70,7 @@ loop-again c =
     = λ k less.
     seen .seen k less
     ∙ flip-seen ws (a .patterns .now) (c .before .before .before .before .before .before .before .before .before .before .before .before .before .before .before .before .right-words .result) (c .before .before .before .before .before .before .before .before .before .before .before .before .before .before .before .before .before .before .before .before .pre .0 .0) (c .before .before .before .before .before .before .before .before .before .before .before .before .before .before .before .before .right-words .ensures) (l .gate) (c .before .before .before .before .before .before .before .before .before .before .before .before .listed-lanes .result) inside (c .before .before .before .before .before .before .before .before .before .before .before .before .listed-lanes .ensures)
-    (seen .changed) (seen .flipped) k less in
-    (
+    (seen .changed) (seen .flipped) k less in (
       omega arith,
       c .before .before .before .before .flip-lanes .ensures .1,
       rw (c .before .before .add-ones .ensures .0)

@@ -41,8 +41,7 @@ loop-holds : tie.Need-loop-holds Inv-loop μ-loop
 loop-holds c =
     let a = c .before .before .before .before .before .before .before .args in
     let ws = a .area .now in
-    rw (c .gates .ensures)
-    (
+    rw (c .gates .ensures) (
       le-refl (layout.gates ws),
       masks-first ws (a .patterns .now) (c .before .before .listed-lanes .result) (c .before .output-masks .result) (c .before .before .listed-lanes .ensures) (c .before .output-masks .ensures),
       counted-none Mask (netOf ws [] []) (a .patterns .now) (a .counts .now) (layout.gates ws),
@@ -54,8 +53,7 @@ count-mask-requires c κs =
     let a = c .before .before .before .before .before .before .before .before .before .before .before .before .args in
     let ws = a .area .now in
     let counted = l .inv .2 in
-    let ready = c .before .before .before .before .before .before .before .before .before .before .before .before .pre .1 in
-    (
+    let ready = c .before .before .before .before .before .before .before .before .before .before .before .before .pre .1 in (
       (c .before .before .before .before .before .before .before .before .before .before .before .before .pre .0 .0, words-worked ws (a .patterns .now) (c .before .before .before .before .before .before .before .before .right-words .result) (c .before .before .before .before .before .before .before .before .before .before .before .before .pre .0 .0) (c .before .before .before .before .before .before .before .before .right-words .ensures), omega arith),
       (
         omega (arith, counted .long, ready .long),
@@ -75,8 +73,7 @@ loop-again c =
     let gate = l .gate - 1 in
     let next : l .gate ≡ suc gate = omega arith in
     let inside : gate < layout.gates ws = omega arith in
-    let masks = subst (λ (k : ℕ). MasksFrom net patterns k (l .masks)) next (l .inv .1) in
-    (
+    let masks = subst (λ (k : ℕ). MasksFrom net patterns k (l .masks)) next (l .inv .1) in (
       omega arith,
       masks-step ws patterns words (c .before .before .before .before .before .before .before .before .before .before .before .before .before .before .before .pre .0 .0) (c .before .before .before .before .before .before .before .before .before .before .before .right-words .ensures) gate inside (l .masks) masks _ (c .before .before .count-mask .ensures .1 .1),
       rw (c .before .before .count-mask .ensures .0)

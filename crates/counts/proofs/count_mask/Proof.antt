@@ -15,8 +15,7 @@ returns : tie.Need-returns
 returns c =
     let a = c .before .before .before .before .before .args in
     let ws = a .area .now in
-    let none = rw (c .before .before .inputs .ensures) at (c .if1 .taken) in
-    (
+    let none = rw (c .before .before .inputs .ensures) at (c .if1 .taken) in (
       add-none (a .counts .now) (a .gate) _ none,
       (
         omega (arith, none),

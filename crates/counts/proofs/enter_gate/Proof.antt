@@ -32,8 +32,10 @@ enter-read-requires c κs =
     let ws = c .before .before .before .before .before .before .before .args .area .now in
     let sound = c .before .before .before .before .before .before .before .pre .0 .0 in
     let l = c .before .before .before .before .loop in (
-      (omega (arith, c .pin .ensures, c .before .before .before .before .before .pin-count .ensures, pin-below ws sound (c .before .before .before .before .before .before .before .args .gate) (c .before .before .before .before .before .before .before .pre .0 .1) (l .i) (omega (arith, c .before .before .before .before .before .pin-count .ensures)), few-sources ws sound, c .before .before .before .before .before .before .before .pre .0 .1),
-      omega (arith, c .before .before .before .before .before .before .before .pre .0 .1, sound .gates-fit)),
+      (
+        omega (arith, c .pin .ensures, c .before .before .before .before .before .pin-count .ensures, pin-below ws sound (c .before .before .before .before .before .before .before .args .gate) (c .before .before .before .before .before .before .before .pre .0 .1) (l .i) (omega (arith, c .before .before .before .before .before .pin-count .ensures)), few-sources ws sound, c .before .before .before .before .before .before .before .pre .0 .1),
+        omega (arith, c .before .before .before .before .before .before .before .pre .0 .1, sound .gates-fit),
+      ),
       ((l .inv .1 .long-first, l .inv .1 .long-end), l .inv .1 .few),
     )
 

@@ -14,8 +14,7 @@ use Rattle.counts.proofs.flip_lanes.Tie as tie
 follow-requires : tie.Need-follow-requires
 follow-requires c κs =
     let a = c .before .before .before .before .before .before .before .args in
-    rw (c .before .before .before .larger .ensures, c .before .larger2 .ensures, c .before .before .before .before .before .inputs .ensures)
-    (
+    rw (c .before .before .before .larger .ensures, c .before .larger2 .ensures, c .before .before .before .before .before .inputs .ensures) (
       c .before .before .before .before .before .before .before .pre .0,
       follow-first (a .area .now) (a .words .now) (c .before .before .before .before .before .before .before .pre .0 .0) (a .gate) (a .first .now) (a .end .now) (c .before .before .before .before .before .before .before .pre .0 .2) (c .before .before .before .before .before .before .before .pre .1 .0) (a .changed .now) (a .by) (c .before .before .before .before .before .before .before .pre .1 .1),
     )
@@ -33,8 +32,7 @@ returns c =
     let ws = a .area .now in
     let f = c .before .before .before .before .follow .ensures .0 in
     let stored : getD (set (a .changed .now) (layout.inputs ws + a .gate) (a .by)) (layout.inputs ws + a .gate) 0 ≡ a .by
-    = getD-set-same (a .changed .now) (layout.inputs ws + a .gate) (a .by) 0 (omega (arith, c .before .before .before .before .before .before .before .before .before .before .before .before .pre .1 .1 .long, few-sources ws (c .before .before .before .before .before .before .before .before .before .before .before .before .pre .0 .0), c .before .before .before .before .before .before .before .before .before .before .before .before .pre .1 .0)) in
-    (
+    = getD-set-same (a .changed .now) (layout.inputs ws + a .gate) (a .by) 0 (omega (arith, c .before .before .before .before .before .before .before .before .before .before .before .before .pre .1 .1 .long, few-sources ws (c .before .before .before .before .before .before .before .before .before .before .before .before .pre .0 .0), c .before .before .before .before .before .before .before .before .before .before .before .before .pre .1 .0)) in (
       record { changed = c .before .before .before .before .follow .last .0; flipped = rw stored at (rw (c .before .before .before .before .before .before .before .before .before .before .inputs .ensures) at f); seen = c .before .before .output-lanes .ensures },
       c .clear .ensures,
     )

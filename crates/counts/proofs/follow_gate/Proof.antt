@@ -38,8 +38,7 @@ returns-2 c =
     let reads = c .before .before .before .before .before .before .before .before .before .pre .0 .2 in
     let inside : w .gate < layout.gates ws = omega (arith, c .before .before .before .before .before .before .before .before .before .pre .1 .0, f .after .2) in
     let source = layout.inputs ws + w .gate in
-    rw (c .before .before .next-gate .ensures, c .larger .ensures, c .before .before .before .before .inputs .ensures)
-    (
+    rw (c .before .before .next-gate .ensures, c .larger .ensures, c .before .before .before .before .inputs .ensures) (
       (refl, next-later (w .gate) (w .stop) (getD (a .first .now) source 0)),
       (
         follow-next ws (a .words .now) (c .before .before .before .before .before .before .before .before .before .pre .0 .0) (w .flipped) (a .first .now) (a .end .now) reads (w .gate) (w .stop) (c .before .before .before .before .before .before .difference .result) (a .changed .now)

@@ -39,8 +39,7 @@ loop-again : tie.Need-loop-again Inv-loop μ-loop
 loop-again c =
     let l = c .before .before .before .loop in
     let a = c .before .before .before .before .before .before .args in
-    let inside : l .k < layout.outputs (a .area .now) = omega (arith, c .before .before .before .before .outputs .ensures) in
-    (
+    let inside : l .k < layout.outputs (a .area .now) = omega (arith, c .before .before .before .before .outputs .ensures) in (
       omega arith,
       some-more (a .area .now) (c .before .before .before .before .before .before .pre) (a .changed .now) (l .k) (l .lanes) (c .word-of .result) inside
           (c .word-of .ensures ∙ ap (λ (o : ℕ). getD (a .changed .now) o 0) (c .before .output .ensures))

@@ -50,8 +50,7 @@ sensitive-word-requires : tie.Need-sensitive-word-requires Inv-loop μ-loop
 sensitive-word-requires c κs =
     let a = c .before .before .before .before .before .before .before .before .before .args in
     let sound = c .before .before .before .before .before .before .before .before .before .pre .0 .0 in
-    let known = pins-answer (a .area .now) (a .words .now) (a .gate) _ (c .before .before .before .before .before .before .before .before .before .pre .0 .1 (a .gate) (c .before .before .before .before .before .before .before .before .before .pre .0 .2)) in
-    (
+    let known = pins-answer (a .area .now) (a .words .now) (a .gate) _ (c .before .before .before .before .before .before .before .before .before .pre .0 .1 (a .gate) (c .before .before .before .before .before .before .before .before .before .pre .0 .2)) in (
       (omega (arith, c .before .before .before .before .before .before .pin-count .ensures, sound .gate (a .gate) (c .before .before .before .before .before .before .before .before .before .pre .0 .2) .pin-count), omega arith),
       rw (c .before .before .before .before .before .before .before .table .ensures, c .before .before .before .before .before .before .pin-count .ensures, c .before .before .before .before .before .pin-words .ensures, c .before .before .before .before .inputs .ensures) known,
     )
