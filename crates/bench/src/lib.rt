@@ -10,11 +10,12 @@ ghost use Rattle.area.specs.Layout as layout;
 ghost use Rattle.area.specs.Layout.{headWords, gates, outputs, needed, pattern, reliabilityWord, figure};
 ghost use Rattle.area.specs.Rules.{areaJudgement, NetSound, Workable};
 ghost use Rattle.calls.specs.Judgements as judged;
-ghost use Rattle.calls.specs.Judgements.{open-image, toggle-input, set-flip, read-netlist, read-gate, take-average, judgement};
-ghost use Rattle.calls.specs.Calls.{openLive, averageOf, left};
+ghost use Rattle.calls.specs.Judgements.{open-image, toggle-input, set-flip, read-netlist, read-gate, take-average, count-seen, judgement};
+ghost use Rattle.calls.specs.Calls.{openLive, averageOf, left, countsLeft};
 ghost use Rattle.bench.specs.Loaded.{roomOf, loadedJudgement, loadedWords};
-ghost use Rattle.bench.specs.Answers.{opened, toggled, flipSet, gateRead, averaged, NetlistAnswer};
+ghost use Rattle.bench.specs.Answers.{opened, toggled, flipSet, gateRead, averaged, counted, NetlistAnswer};
 use chance::FlipUnits;
+use netlist::Method;
 use refusal::Judgement;
 
 // The answers: done with its result, or refused with number and place.
@@ -268,4 +269,34 @@ pub fn average(area: &mut [u32], weights: &[u32]) -> Averaged
         Judgement::Fine => Averaged::Done(average::average(area, weights)),
         Judgement::Refused(number, place) => Averaged::Refused(number, place),
     }
+}
+
+// Judges, then counts by the method. The area is only read.
+fn count_seen(area: &[u32], patterns: &[u32], counts: &mut [u32], method: Method) -> Counted
+    ensures { λ r. ⌜ r ≡ counted (judgement (now (area .entry)) (count-seen method (now (patterns .entry)) (length (now (counts .entry))))) ⌝ }
+    ensures { λ _. ⌜ now (counts .exit) ≡ countsLeft (now (area .entry)) method (now (patterns .entry)) (now (counts .entry)) ⌝ }
+{
+    match judge_counts(area, patterns, counts.len()) {
+        Judgement::Fine => {
+            counts::count(area, patterns, counts, method);
+            Counted::Done
+        }
+        Judgement::Refused(number, place) => Counted::Refused(number, place),
+    }
+}
+
+// For each gate, in how many of the listed patterns its flip alone makes some output wrong, by flipping it. Entries past one a gate stay as they were.
+pub fn counts_by_flip(area: &[u32], patterns: &[u32], counts: &mut [u32]) -> Counted
+    ensures { λ r. ⌜ r ≡ counted (judgement (now (area .entry)) (count-seen Method.Flip (now (patterns .entry)) (length (now (counts .entry))))) ⌝ }
+    ensures { λ _. ⌜ now (counts .exit) ≡ countsLeft (now (area .entry)) Method.Flip (now (patterns .entry)) (now (counts .entry)) ⌝ }
+{
+    count_seen(area, patterns, counts, Method::Flip)
+}
+
+// The counts by masks that are passed back from the outputs: on every area that was opened they are those of the flips.
+pub fn counts_by_mask(area: &[u32], patterns: &[u32], counts: &mut [u32]) -> Counted
+    ensures { λ r. ⌜ r ≡ counted (judgement (now (area .entry)) (count-seen Method.Mask (now (patterns .entry)) (length (now (counts .entry))))) ⌝ }
+    ensures { λ _. ⌜ now (counts .exit) ≡ countsLeft (now (area .entry)) Method.Mask (now (patterns .entry)) (now (counts .entry)) ⌝ }
+{
+    count_seen(area, patterns, counts, Method::Mask)
 }
