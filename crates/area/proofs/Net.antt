@@ -1,14 +1,19 @@
 -- Laws of the netlist that words hold: its gates, its well-formedness, what does not depend on kinds and chances, and which words hold the same one.
 -- Assumes nothing.
 use Prim.Native.Nat.{ℕ, zero, suc, _+_, _≤_, _<_}
-use mathlib.Core.List.{List, _∷_}
-use mathlib.Core.Path.{_≡_, refl, sym, ap, ap₂, subst, _∙_}
+use mathlib.Core.Bool.{Bool, not}
+use mathlib.Core.List.{List, [], _∷_, _++_}
+use mathlib.Core.Path.{_≡_, refl, sym, ap, ap₂, subst, fun-ext, _∙_}
 use native.Mathlib.Nat.{add-zero, zero-add}
 use native.Mathlib.Omega.{arith}
 use lib.ListN.{length, getD}
-use Rattle.netlist.specs.Netlist.{noGate, gateAt}
+use Rattle.figure.specs.Figure.{invertIf, answer}
+use Rattle.netlist.specs.declared.Method.the-variants.{Flip}
+use Rattle.netlist.specs.Netlist.{noGate, gateAt, inputValues, pinValues, firstFlip, otherFlips, values, rightValues}
 use Rattle.netlist.specs.WellFormed.{PinsBelow, WellFormed}
-use Rattle.lists.specs.Lists.{count}
+use Rattle.netlist.specs.Exact.{outputsAgree}
+use Rattle.netlist.specs.Seen.{alone, flipSeen, seenCounts}
+use Rattle.lists.specs.Lists.{count, joined, countWhere}
 use Rattle.netlist.specs.Live.{withGate, liveReadsFrom, liveReads, readers, liveAmong, liveGates, SingleReaders}
 use Rattle.area.specs.Layout.{inputs, gates, table, usedPins, outputWords}
 use Rattle.area.specs.Rules.{NetSound}
@@ -54,6 +59,14 @@ reads-from-same : (ws ks cs ls ds outs : List ℕ) (s j k : ℕ)
 reads-from-same ws ks cs ls ds outs s j zero = refl
 reads-from-same ws ks cs ls ds outs s j (suc k) = ap (withGate s (usedPins ws j)) (reads-from-same ws ks cs ls ds outs (suc s) (suc j) k)
 
+-- and the values under flips are in the pins and tables alone
+values-from-same : (ws ks cs ls ds : List ℕ) (j k : ℕ) (flips vs : List Bool)
+    → values (gatesFrom ws ks cs j k) flips vs ≡ values (gatesFrom ws ls ds j k) flips vs
+values-from-same ws ks cs ls ds j zero flips vs = refl
+values-from-same ws ks cs ls ds j (suc k) flips vs =
+    values-from-same ws ks cs ls ds (suc j) k (otherFlips flips)
+    (vs ++ (invertIf (firstFlip flips) (answer (table ws j) (pinValues vs (usedPins ws j))) ∷ []))
+
 module _ (ws ks cs ls ds : List ℕ) where
   pub same-reads : liveReads (netOf ws ks cs) ≡ liveReads (netOf ws ls ds)
   unfolding liveReads
@@ -73,6 +86,18 @@ module _ (ws ks cs ls ds : List ℕ) where
   pub same-single-readers : SingleReaders (netOf ws ks cs) → SingleReaders (netOf ws ls ds)
   unfolding SingleReaders
   same-single-readers single j l = omega (arith, single j (omega (arith, same-gate-count)), same-readers (inputs ws + j))
+
+  pub same-flip-counts : (patterns : List ℕ) → seenCounts Flip (netOf ws ks cs) patterns ≡ seenCounts Flip (netOf ws ls ds) patterns
+  unfolding seenCounts flipSeen rightValues
+  same-flip-counts patterns =
+      ap₂
+      (λ (under : List Bool → List Bool → List Bool) (k : ℕ).
+      joined (λ (j : ℕ).
+      countWhere (λ q.
+      not (outputsAgree (outputWords ws) (under (alone j) (inputValues (inputs ws) q)) (under [] (inputValues (inputs ws) q)))) patterns
+      ∷ []) k)
+      (fun-ext (λ flips. fun-ext (values-from-same ws ks cs ls ds 0 (gates ws) flips)))
+      same-gate-count
 
 -- words with the same counts, used pins, tables and outputs hold the same netlist
 pub record SameNet (vs ws : List ℕ) : Type 0 where

@@ -44,6 +44,10 @@ largestFigure = 2_147_483_649
 abbrev pub largestWeight : ℕ
 largestWeight = 1_048_575
 
+-- patterns that a list may have, repeated ones too
+abbrev pub mostListed : ℕ
+mostListed = 4096
+
 -- ---- the head: n, G, K, pattern, reliability, three reserved words
 
 abbrev pub headWords : ℕ

@@ -30,6 +30,9 @@ pub const LARGEST_FIGURE: u32 = 2 * LARGEST_FLIP + 1;
 
 pub const LARGEST_WEIGHT: u32 = 1_048_575;
 
+// Patterns that a list may have, repeated ones too.
+pub const MOST_LISTED: usize = 4096;
+
 // The head.
 pub const HEAD_WORDS: usize = 8;
 

@@ -19,6 +19,8 @@ use Rattle.bench.specs.declared.Averaged.{Averaged}
 use Rattle.bench.specs.declared.Averaged.the-variants.{Done as AverageDone, Refused as AverageRefused}
 use Rattle.bench.specs.declared.GateRead.{GateRead}
 use Rattle.bench.specs.declared.GateRead.the-variants.{Done as GateDone, Refused as GateRefused}
+use Rattle.bench.specs.declared.Counted.{Counted}
+use Rattle.bench.specs.declared.Counted.the-variants.{Done as CountDone, Refused as CountRefused}
 
 -- the number of live gates
 abbrev pub opened : Judgement → ℕ → Opened
@@ -42,6 +44,11 @@ averaged (Refused number place) units = AverageRefused number place
 abbrev pub gateRead : Judgement → ℕ → ℕ → GateRead
 gateRead Fine right failure = GateDone right failure
 gateRead (Refused number place) right failure = GateRefused number place
+
+-- the counts stand in the slice
+abbrev pub counted : Judgement → Counted
+counted Fine = CountDone
+counted (Refused number place) = CountRefused number place
 
 -- pattern and units, with the f64 whose value is exactly units / U
 abbrev pub NetlistAnswer : Judgement → ℕ → ℕ → NetlistRead → Type 0

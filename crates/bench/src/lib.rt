@@ -1,19 +1,21 @@
-// The six calls of the bench. Each judges its input first: a refused call changes no word.
+// The calls of the bench. Each judges its input first: a refused call changes no word.
 ghost use mathlib.Core.Path.{_≡_};
-ghost use Prim.Native.Nat.{ℕ, _/_, _%_, _≤_, _<_};
+ghost use Prim.Native.Nat.{ℕ, _-_, _/_, _%_, _^_, _≤_, _<_};
 ghost use mathlib.Core.List.{List, [], _++_};
 ghost use lib.ListN.{length, getD, take, drop};
 ghost use Rattle.refusal.specs.Judgement.{otherwise, unlessRefused};
 ghost use Rattle.netlist.specs.Live.{liveGates};
 ghost use Rattle.area.specs.Net.{netOf};
+ghost use Rattle.area.specs.Layout as layout;
 ghost use Rattle.area.specs.Layout.{headWords, gates, outputs, needed, pattern, reliabilityWord, figure};
 ghost use Rattle.area.specs.Rules.{areaJudgement, NetSound, Workable};
 ghost use Rattle.calls.specs.Judgements as judged;
-ghost use Rattle.calls.specs.Judgements.{open-image, toggle-input, set-flip, read-netlist, read-gate, take-average, judgement};
-ghost use Rattle.calls.specs.Calls.{openLive, averageOf, left};
+ghost use Rattle.calls.specs.Judgements.{open-image, toggle-input, set-flip, read-netlist, read-gate, take-average, count-seen, judgement};
+ghost use Rattle.calls.specs.Calls.{openLive, averageOf, left, countsLeft};
 ghost use Rattle.bench.specs.Loaded.{roomOf, loadedJudgement, loadedWords};
-ghost use Rattle.bench.specs.Answers.{opened, toggled, flipSet, gateRead, averaged, NetlistAnswer};
+ghost use Rattle.bench.specs.Answers.{opened, toggled, flipSet, gateRead, averaged, counted, NetlistAnswer};
 use chance::FlipUnits;
+use netlist::Method;
 use refusal::Judgement;
 
 // The answers: done with its result, or refused with number and place.
@@ -48,6 +50,11 @@ pub enum Averaged {
 
 pub enum GateRead {
     Done { right: u32, failure: u32 },
+    Refused(u8, u32),
+}
+
+pub enum Counted {
+    Done,
     Refused(u8, u32),
 }
 
@@ -140,6 +147,44 @@ fn judge_average(area: &[u32], weights: &[u32]) -> Judgement
     }
 }
 
+// The largest pattern of so many inputs.
+fn last_pattern(inputs: usize) -> u32
+    requires { ⌜ inputs ≤ layout.mostInputs ⌝ }
+    ensures { λ r. ⌜ r ≡ 2 ^ inputs - 1 ⌝ }
+{
+    (1 << inputs) - 1
+}
+
+// Refusals 15, 16 and 17 in their order: how many patterns, the lowest that is too large, fewer counts than gates.
+fn judge_listed(inputs: usize, gates: usize, patterns: &[u32], slots: usize) -> Judgement
+    requires { ⌜ inputs ≤ layout.mostInputs ⌝ }
+    ensures { λ r. ⌜ r ≡ judged.countsJudgement inputs gates (now (patterns .entry)) slots ⌝ }
+{
+    if patterns.len() < 1 || area::MOST_LISTED < patterns.len() {
+        return Judgement::Refused(refusal::LIST_LENGTH, 0);
+    }
+    match refusal::judge_each(patterns, last_pattern(inputs), refusal::LISTED_PATTERN) {
+        Judgement::Fine => {
+            if slots < gates {
+                return Judgement::Refused(refusal::COUNT_SLICE, 0);
+            }
+            Judgement::Fine
+        }
+        Judgement::Refused(number, place) => Judgement::Refused(number, place),
+    }
+}
+
+// The area's own refusal, then the list's and the slice's: the same for either method.
+fn judge_counts(area: &[u32], patterns: &[u32], slots: usize) -> Judgement
+    ensures { λ r. ⌜ r ≡ otherwise (areaJudgement (now (area .entry)))
+        (judged.countsJudgement (layout.inputs (now (area .entry))) (gates (now (area .entry))) (now (patterns .entry)) slots) ⌝ }
+{
+    match rules::judge(area) {
+        Judgement::Fine => judge_listed(area::inputs(area), area::gates(area), patterns, slots),
+        Judgement::Refused(number, place) => Judgement::Refused(number, place),
+    }
+}
+
 // Toggles one input: works out again the gates that depend on it, and the reliability.
 pub fn toggle_input(area: &mut [u32], input: u32) -> Toggled
     ensures { λ r. ⌜ r ≡ toggled (judgement (now (area .entry)) (toggle-input input)) ⌝ }
@@ -224,4 +269,34 @@ pub fn average(area: &mut [u32], weights: &[u32]) -> Averaged
         Judgement::Fine => Averaged::Done(average::average(area, weights)),
         Judgement::Refused(number, place) => Averaged::Refused(number, place),
     }
+}
+
+// Judges, then counts by the method. The area is only read.
+fn count_seen(area: &[u32], patterns: &[u32], counts: &mut [u32], method: Method) -> Counted
+    ensures { λ r. ⌜ r ≡ counted (judgement (now (area .entry)) (count-seen method (now (patterns .entry)) (length (now (counts .entry))))) ⌝ }
+    ensures { λ _. ⌜ now (counts .exit) ≡ countsLeft (now (area .entry)) method (now (patterns .entry)) (now (counts .entry)) ⌝ }
+{
+    match judge_counts(area, patterns, counts.len()) {
+        Judgement::Fine => {
+            counts::count(area, patterns, counts, method);
+            Counted::Done
+        }
+        Judgement::Refused(number, place) => Counted::Refused(number, place),
+    }
+}
+
+// For each gate, in how many of the listed patterns its flip alone makes some output wrong, by flipping it. Entries past one a gate stay as they were.
+pub fn counts_by_flip(area: &[u32], patterns: &[u32], counts: &mut [u32]) -> Counted
+    ensures { λ r. ⌜ r ≡ counted (judgement (now (area .entry)) (count-seen Method.Flip (now (patterns .entry)) (length (now (counts .entry))))) ⌝ }
+    ensures { λ _. ⌜ now (counts .exit) ≡ countsLeft (now (area .entry)) Method.Flip (now (patterns .entry)) (now (counts .entry)) ⌝ }
+{
+    count_seen(area, patterns, counts, Method::Flip)
+}
+
+// The counts by masks that are passed back from the outputs: on every area that was opened they are those of the flips.
+pub fn counts_by_mask(area: &[u32], patterns: &[u32], counts: &mut [u32]) -> Counted
+    ensures { λ r. ⌜ r ≡ counted (judgement (now (area .entry)) (count-seen Method.Mask (now (patterns .entry)) (length (now (counts .entry))))) ⌝ }
+    ensures { λ _. ⌜ now (counts .exit) ≡ countsLeft (now (area .entry)) Method.Mask (now (patterns .entry)) (now (counts .entry)) ⌝ }
+{
+    count_seen(area, patterns, counts, Method::Mask)
 }

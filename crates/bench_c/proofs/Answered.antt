@@ -8,7 +8,7 @@ use lib.Ieee.Exact.{HasValue}
 use Rattle.rounding.specs.Rounding.{unitsInOne}
 use Rattle.refusal.specs.declared.Judgement.{Judgement}
 use Rattle.refusal.specs.declared.Judgement.the-variants.{Fine, Refused}
-use Rattle.bench.specs.Answers.{opened, toggled, flipSet, gateRead, averaged, NetlistAnswer}
+use Rattle.bench.specs.Answers.{opened, toggled, flipSet, gateRead, averaged, counted, NetlistAnswer}
 use Rattle.bench.specs.declared.Opened.the-variants.{Done as OpenDone, Refused as OpenRefused}
 use Rattle.bench.specs.declared.Toggled.the-variants.{Done as ToggleDone, Refused as ToggleRefused}
 use Rattle.bench.specs.declared.FlipSet.the-variants.{Done as SetDone, Refused as SetRefused}
@@ -16,6 +16,7 @@ use Rattle.bench.specs.declared.NetlistRead.{NetlistRead}
 use Rattle.bench.specs.declared.NetlistRead.the-variants.{Done as NetlistDone, Refused as NetlistRefused}
 use Rattle.bench.specs.declared.Averaged.the-variants.{Done as AverageDone, Refused as AverageRefused}
 use Rattle.bench.specs.declared.GateRead.the-variants.{Done as GateDone, Refused as GateRefused}
+use Rattle.bench.specs.declared.Counted.the-variants.{Done as CountDone, Refused as CountRefused}
 
 -- each law: what the answer done tells, then what a refused one tells
 pub toggle-told : (j : Judgement) → (toggled j ≡ ToggleDone → j ≡ Fine) × ((a p : ℕ) → toggled j ≡ ToggleRefused a p → j ≡ Refused a p)
@@ -25,6 +26,10 @@ toggle-told (Refused b q) = (λ e. cc, λ a p e. cc)
 pub set-told : (j : Judgement) → (flipSet j ≡ SetDone → j ≡ Fine) × ((a p : ℕ) → flipSet j ≡ SetRefused a p → j ≡ Refused a p)
 set-told Fine = (λ e. refl, λ a p e. cc)
 set-told (Refused b q) = (λ e. cc, λ a p e. cc)
+
+pub count-told : (j : Judgement) → (counted j ≡ CountDone → j ≡ Fine) × ((a p : ℕ) → counted j ≡ CountRefused a p → j ≡ Refused a p)
+count-told Fine = (λ e. refl, λ a p e. cc)
+count-told (Refused b q) = (λ e. cc, λ a p e. cc)
 
 pub open-told : (j : Judgement) (v : ℕ)
     → ((n : ℕ) → opened j v ≡ OpenDone n → (j ≡ Fine) × (n ≡ v)) × ((a p : ℕ) → opened j v ≡ OpenRefused a p → j ≡ Refused a p)

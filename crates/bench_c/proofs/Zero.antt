@@ -10,7 +10,8 @@ use Rattle.refusal.specs.declared.Judgement.the-variants.{Fine, Refused}
 use Rattle.refusal.proofs.Laws.{Only, only-unless, only-otherwise}
 use Rattle.area.specs.Layout.{headWords, inputs, gates, outputs}
 use Rattle.area.specs.Rules.{countsInRange, restSound, areaJudgement}
-use Rattle.calls.specs.Judgements.{Call, open-image, toggle-input, set-flip, read-netlist, read-gate, take-average, lentJudgement, judgement}
+use Rattle.calls.specs.Judgements.{Call, open-image, toggle-input, set-flip, read-netlist, read-gate, take-average, count-seen}
+use Rattle.calls.specs.Judgements.{lentJudgement, judgement}
 use Rattle.calls.proofs.Judgements.{only-room, only-arguments, only-open}
 use Rattle.bench_c.specs.Codes.{code}
 
@@ -35,6 +36,7 @@ of-call ws (set-flip g kind field) = of-lent ws (set-flip g kind field)
 of-call ws read-netlist = of-lent ws read-netlist
 of-call ws (read-gate g) = of-lent ws (read-gate g)
 of-call ws (take-average weights) = of-lent ws (take-average weights)
+of-call ws (count-seen method patterns slots) = of-lent ws (count-seen method patterns slots)
 
 -- of every call on every area
 pub zero-is-done : (ws : List ℕ) (call : Call) → code (judgement ws call) ≡ 0 → judgement ws call ≡ Fine

@@ -1,17 +1,22 @@
-// The six calls of the bench for C. Each answers 0 where the work was done, else number × 2^32 + place, and then leaves what its pointers name as it was.
+// The calls of the bench for C. Each answers 0 where the work was done, else number × 2^32 + place, and then leaves what its pointers name as it was.
 ghost use mathlib.Core.Path.{_≡_};
+ghost use lib.ListN.{length};
 ghost use Prim.Native.Nat.{_/_, _%_};
 ghost use Rattle.refusal.specs.Judgement.{unlessRefused};
 ghost use Rattle.area.specs.Layout.{pattern as patternWord, reliabilityWord, figure};
-ghost use Rattle.calls.specs.Judgements.{open-image, toggle-input, set-flip, read-netlist, read-gate, take-average, judgement};
-ghost use Rattle.calls.specs.Calls.{openLive, averageOf, left};
+ghost use Rattle.calls.specs.Judgements.{open-image, toggle-input, set-flip, read-netlist, read-gate, take-average, count-seen, judgement};
+ghost use Rattle.calls.specs.Calls.{openLive, averageOf, left, countsLeft};
+ghost use Rattle.bench.specs.Answers.{counted};
 ghost use Rattle.bench_c.specs.Codes.{refusalCode, code, fieldBytes, FloatBy};
 use bench::Averaged;
+use bench::Counted;
 use bench::FlipSet;
 use bench::GateRead;
 use bench::NetlistRead;
 use bench::Opened;
 use bench::Toggled;
+use netlist::Method;
+use refusal::Judgement;
 
 // A refusal as one number: the place fits below 2^32, so C can part the two. No refusal gives 0 (proofs/Zero.antt).
 fn refused(number: u8, place: u32) -> u64
@@ -163,4 +168,32 @@ pub extern "C" fn bench_average(area: &mut [u32], weights: &[u32], units: &mut u
         }
         Averaged::Refused(number, place) => refused(number, place),
     }
+}
+
+// The code of either method's answer: the judgement that it tells.
+fn count_code(answer: Counted) -> u64
+    ensures { λ r. ⌜ ((judged : Judgement) → answer ≡ counted judged → r ≡ code judged) ⌝ }
+{
+    match answer {
+        Counted::Done => 0,
+        Counted::Refused(number, place) => refused(number, place),
+    }
+}
+
+// For each gate, in how many of the listed patterns its flip alone makes some output wrong, by flipping it: one count a gate goes to `counts`.
+#[no_mangle]
+pub extern "C" fn bench_counts_by_flip(area: &[u32], patterns: &[u32], counts: &mut [u32]) -> u64
+    ensures { λ r. ⌜ r ≡ code (judgement (now (area .entry)) (count-seen Method.Flip (now (patterns .entry)) (length (now (counts .entry))))) ⌝ }
+    ensures { λ _. ⌜ now (counts .exit) ≡ countsLeft (now (area .entry)) Method.Flip (now (patterns .entry)) (now (counts .entry)) ⌝ }
+{
+    count_code(bench::counts_by_flip(area, patterns, counts))
+}
+
+// The counts by masks that are passed back from the outputs.
+#[no_mangle]
+pub extern "C" fn bench_counts_by_mask(area: &[u32], patterns: &[u32], counts: &mut [u32]) -> u64
+    ensures { λ r. ⌜ r ≡ code (judgement (now (area .entry)) (count-seen Method.Mask (now (patterns .entry)) (length (now (counts .entry))))) ⌝ }
+    ensures { λ _. ⌜ now (counts .exit) ≡ countsLeft (now (area .entry)) Method.Mask (now (patterns .entry)) (now (counts .entry)) ⌝ }
+{
+    count_code(bench::counts_by_mask(area, patterns, counts))
 }

@@ -1,7 +1,7 @@
--- What must be shown of a call, for each of the six. Assumes nothing.
+-- What must be shown of a call, for each of them. Assumes nothing.
 use Prim.Native.Nat.{ℕ, _≤_, _<_}
 use mathlib.Core.Bool.{true}
-use mathlib.Core.List.{List}
+use mathlib.Core.List.{List, []}
 use mathlib.Core.Logic.{by-cases}
 use mathlib.Core.Path.{_≡_, refl, sym, ap, subst, _∙_}
 use native.Mathlib.Decide.{ℕ-discrete}
@@ -12,16 +12,20 @@ use Rattle.chance.specs.Number.{chanceScale}
 use Rattle.chance.specs.Flip.{flipAccepted, flipChance}
 use Rattle.chance.proofs.Laws.{flip-chance-at-most, flip-units-at-most}
 use Rattle.netlist.specs.Netlist.{Netlist}
+use Rattle.netlist.specs.declared.Method.{Method}
+use Rattle.netlist.specs.declared.Method.the-variants.{Flip}
 use Rattle.netlist.specs.Live.{SingleReaders}
+use Rattle.netlist.specs.Seen.{seenCounts}
+use Rattle.netlist.proofs.Seen.{agreeing-counts}
 use Rattle.area.specs.Layout.{inputs, gates}
 use Rattle.work.specs.Work.{invertBit, toggleWords, setWords}
 use Rattle.work.proofs.Frame.{same-gates, same-toggle, same-set}
 use Rattle.work.proofs.Sound.{sound-toggle, sound-set}
 use Rattle.area.specs.Net.{netOf}
-use Rattle.area.proofs.Net.{same-single-readers}
+use Rattle.area.proofs.Net.{sound-pins, same-single-readers, same-flip-counts}
 use Rattle.fresh.proofs.Calls.{toggle-net, toggle-pattern, toggle-fresh, toggle-converted, set-net, set-pattern, set-fresh, set-converted}
 use Rattle.fresh.proofs.Unique.{fresh-fixed}
-use Rattle.calls.specs.Judgements.{open-image, toggle-input, set-flip, read-netlist, read-gate, take-average}
+use Rattle.calls.specs.Judgements.{open-image, toggle-input, set-flip, read-netlist, read-gate, take-average, count-seen}
 use Rattle.chance.specs.Flip.{flipUnits}
 use Rattle.calls.specs.Calls.{openWords, work}
 use Rattle.book.specs.Book.{Book, withFlip, entered, imageBook}
@@ -126,18 +130,33 @@ shown-set g kind field =
 -- ---- reads
 
 untouched : {call : Call} → ((ws : List ℕ) (b : Book) → (work ws call ≡ ws) × (entered b call ≡ b))
-    → ((ws : List ℕ) (b : Book) → AnswerKept ws b call) → Lent call
+    → ((size : ℕ) (ws : List ℕ) (b : Book) → Agree size ws b → AnswerKept ws b call) → Lent call
 untouched same answer =
     record {
       agrees = λ size ws b agree e. let s = same ws b in rw (s .0, s .1) agree;
-      answers = λ size ws b agree e. answer ws b;
+      answers = λ size ws b agree e. answer size ws b agree;
     }
 
 pub shown-read : Shown read-netlist
-shown-read = shown-lent read-netlist (λ ws. refl) (λ b size. refl) (untouched (λ ws b. (refl, refl)) (λ ws b. tt))
+shown-read = shown-lent read-netlist (λ ws. refl) (λ b size. refl) (untouched (λ ws b. (refl, refl)) (λ size ws b agree. tt))
 
 pub shown-read-gate : (g : ℕ) → Shown (read-gate g)
-shown-read-gate g = shown-lent (read-gate g) (λ ws. refl) (λ b size. refl) (untouched (λ ws b. (refl, refl)) (λ ws b. tt))
+shown-read-gate g = shown-lent (read-gate g) (λ ws. refl) (λ b size. refl) (untouched (λ ws b. (refl, refl)) (λ size ws b agree. tt))
+
+-- no live gate of the book's netlist is shared, so either method has the counts of its flips
+counted : (method : Method) (patterns : List ℕ) (size : ℕ) (ws : List ℕ) (b : Book) → Agree size ws b
+    → seenCounts method (netOf ws [] []) patterns ≡ seenCounts Flip (b .net) patterns
+counted method patterns size ws b agree =
+    let kinds = agree .kinds in
+    let chances = agree .chances in
+    let single = same-single-readers ws kinds chances [] [] (subst SingleReaders (sym (agree .held)) (agree .single)) in
+    agreeing-counts (netOf ws [] []) (sound-pins ws [] [] (agree .sound .workable .net)) single method patterns
+    ∙ same-flip-counts ws [] [] kinds chances patterns
+    ∙ ap (λ (net : Netlist). seenCounts Flip net patterns) (agree .held)
+
+pub shown-counts : (method : Method) (patterns : List ℕ) (slots : ℕ) → Shown (count-seen method patterns slots)
+shown-counts method patterns slots =
+    shown-lent (count-seen method patterns slots) (λ ws. refl) (λ b size. refl) (untouched (λ ws b. (refl, refl)) (counted method patterns))
 
 -- ---- the average: the figure words were worked out before it, and are again
 

@@ -7,6 +7,7 @@ use lib.Ieee.{ofBits}
 use lib.ListN.{replicate}
 use Rattle.chance.specs.Number.{chanceScale, wholeChance, fromZeroToOne}
 use Rattle.chance.specs.Flip.{flipOf, inRange, flipAccepted, chanceOf, flipChance}
+use Rattle.netlist.specs.declared.Method.the-variants.{Flip, Mask}
 use Rattle.netlist.specs.Live.{liveReads, readers}
 use Rattle.netlist.specs.Netlist.{Gate}
 use Rattle.area.specs.Rules.{gateShape, usedBelow, countsInRange}
@@ -16,8 +17,8 @@ use Rattle.image.specs.Image.{middle}
 use Rattle.image.specs.Refusals.{lengthRight, backRight, trailerRefusal, gateRefusal, outputRefusal, middleRefusal, imageRefusal}
 use Rattle.image.specs.Loading.{recordChance}
 use Rattle.live.specs.Shared.{sharedJudgement}
-use Rattle.calls.specs.Judgements.{openJudgement, weightsJudgement, argumentJudgement}
-use Rattle.calls.specs.Judgements.{Call, open-image, toggle-input, set-flip, read-netlist, read-gate, take-average}
+use Rattle.calls.specs.Judgements.{openJudgement, weightsJudgement, countsJudgement, argumentJudgement}
+use Rattle.calls.specs.Judgements.{Call, open-image, toggle-input, set-flip, read-netlist, read-gate, take-average, count-seen}
 use Rattle.calls.specs.Calls.{openWords}
 use Rattle.calls.specs.Sheets.{printedImage}
 use Rattle.image.specs.Netlist.{imageNet}
@@ -54,7 +55,7 @@ unfolding openJudgement sharedJudgement readers liveReads imageNet middle
 too-short = rw not-refused refl
 
 -- what the book says of a list of calls: input 1 toggled; no input 2; gate 0 to flip never; not-a-number; no gate 3; three weights; weights 0;
--- an image of no bytes
+-- counts of no patterns, of pattern 4 at position 1, into two entries, of pattern 3 twice; an image of no bytes
 abbrev calls : List Call
 calls =
     toggle-input 1
@@ -65,6 +66,10 @@ calls =
     ∷ take-average (1 ∷ 1 ∷ 1 ∷ [])
     ∷ take-average (replicate 4 0)
     ∷ take-average (replicate 4 1)
+    ∷ count-seen Flip [] 3
+    ∷ count-seen Mask (3 ∷ 4 ∷ []) 2
+    ∷ count-seen Flip (3 ∷ []) 2
+    ∷ count-seen Mask (3 ∷ 3 ∷ []) 3
     ∷ open-image []
     ∷ read-netlist
     ∷ []
@@ -82,12 +87,16 @@ pub said : judgements (imageBook printedImage) 33 calls
     ∷ Refused 12 0
     ∷ Refused 12 0
     ∷ Fine
+    ∷ Refused 15 0
+    ∷ Refused 16 1
+    ∷ Refused 17 0
+    ∷ Fine
     ∷ Refused 1 0
     ∷ Fine
     ∷ []
 unfolding
-    heldJudgement argumentJudgement imageNet middle withFlip flipAccepted inRange fromZeroToOne ofBits weightsJudgement openJudgement imageRefusal
-    trailerRefusal lengthRight
+    heldJudgement argumentJudgement imageNet middle withFlip flipAccepted inRange fromZeroToOne ofBits weightsJudgement countsJudgement openJudgement
+    imageRefusal trailerRefusal lengthRight
 said = refl
 
 -- and demand 3 speaks of it

@@ -2,19 +2,18 @@
 use Prim.Native.Nat.{ℕ}
 use mathlib.Core.List.{List, [], _∷_}
 use mathlib.Core.Path.{_≡_, refl, sym, subst, _∙_}
-use native.Mathlib.Omega.{arith}
 use lib.ListN.{length}
 use Rattle.refusal.specs.declared.Judgement.{Judgement}
 use Rattle.refusal.specs.declared.Judgement.the-variants.{Fine, Refused}
 use Rattle.refusal.specs.Judgement.{unlessRefused}
-use Rattle.calls.specs.Judgements.{Call, open-image, toggle-input, set-flip, read-netlist, read-gate, take-average}
+use Rattle.calls.specs.Judgements.{Call, open-image, toggle-input, set-flip, read-netlist, read-gate, take-average, count-seen}
 use Rattle.calls.specs.Calls.{openWords, work, left}
 use Rattle.book.specs.Book.{Book, imageBook, bookJudgement, entered, bookStep}
 use Rattle.book.specs.Statement.{CallKept, Kept, Demand3}
 use Rattle.book.proofs.Agree.{Agree, current}
 use Rattle.book.proofs.Shown.{Shown}
 use Rattle.book.proofs.Open.{opened}
-use Rattle.book.proofs.Calls.{shown-open, shown-toggle, shown-set, shown-read, shown-read-gate, shown-average}
+use Rattle.book.proofs.Calls.{shown-open, shown-toggle, shown-set, shown-read, shown-read-gate, shown-average, shown-counts}
 
 -- every call of the list
 pub shown : (call : Call) → Shown call
@@ -24,6 +23,7 @@ shown (set-flip g kind field) = shown-set g kind field
 shown read-netlist = shown-read
 shown (read-gate g) = shown-read-gate g
 shown (take-average weights) = shown-average weights
+shown (count-seen method patterns slots) = shown-counts method patterns slots
 
 module _ (size : ℕ) (ws : List ℕ) (b : Book) (call : Call) (agree : Agree size ws b) where
   pub call-kept : CallKept size ws b call
@@ -32,7 +32,7 @@ module _ (size : ℕ) (ws : List ℕ) (b : Book) (call : Call) (agree : Agree si
       let same = it .judged size ws b agree in
       record {
         judged = same;
-        never-14 = λ place e. omega (arith, it .only b size 14 place (sym same ∙ e) .1);
+        never-14 = λ place e. it .only b size 14 place (sym same ∙ e) .1 refl;
         answer = λ e. it .answers size ws b agree (sym same ∙ e);
       }
 

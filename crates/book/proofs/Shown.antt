@@ -4,7 +4,7 @@ use mathlib.Core.List.{List}
 use mathlib.Core.Path.{_≡_, sym, ap₂, _∙_}
 use lib.ListN.{length}
 use Rattle.refusal.specs.declared.Judgement.the-variants.{Fine}
-use Rattle.refusal.proofs.Laws.{otherwise-fine, otherwise-second, Only, BelowRule, only-otherwise}
+use Rattle.refusal.proofs.Laws.{otherwise-fine, otherwise-second, Only, NotRule, only-otherwise}
 use Rattle.area.specs.Layout.{inputs, gates}
 use Rattle.area.specs.Rules.{roomJudgement}
 use Rattle.calls.specs.Judgements.{Call, argumentJudgement, lentJudgement, judgement}
@@ -17,7 +17,7 @@ use Rattle.book.proofs.Agree.{Agree, same-input-count, same-gate-count,
 -- it is judged as by the book, which knows no 14; where it is not refused, its words agree with what it enters, and its answer is as promised
 pub record Shown (call : Call) : Type 0 where
   pub judged : (size : ℕ) (ws : List ℕ) (b : Book) → Agree size ws b → judgement ws call ≡ bookJudgement b size call
-  pub only : (b : Book) (size : ℕ) → Only BelowRule (bookJudgement b size call)
+  pub only : (b : Book) (size : ℕ) → Only NotRule (bookJudgement b size call)
   pub agrees : (size : ℕ) (ws : List ℕ) (b : Book) → Agree size ws b → bookJudgement b size call ≡ Fine → Agree size (work ws call) (entered b call)
   pub answers : (size : ℕ) (ws : List ℕ) (b : Book) → Agree size ws b → bookJudgement b size call ≡ Fine → AnswerKept ws b call
 
@@ -45,10 +45,10 @@ module _ (size : ℕ) (ws : List ℕ) (b : Book) (call : Call) (agree : Agree si
   held-passes e =
       same-arguments ∙ otherwise-fine (roomJudgement (length (b .net .gates)) (length (b .net .outputs)) size) _ e .1
 
-only-held : (b : Book) (size : ℕ) (call : Call) → Only BelowRule (heldJudgement b size call)
+only-held : (b : Book) (size : ℕ) (call : Call) → Only NotRule (heldJudgement b size call)
 unfolding heldJudgement
 only-held b size call =
-    only-otherwise BelowRule _ _
+    only-otherwise NotRule _ _
     (only-room (length (b .net .gates)) (length (b .net .outputs)) size)
     (only-arguments (b .net .inputs) (length (b .net .gates)) call)
 

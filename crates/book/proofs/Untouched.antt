@@ -16,7 +16,8 @@ use Rattle.image.specs.Image.{imageGates, imageOutputs}
 use Rattle.image.specs.Loading.{imageWords}
 use Rattle.image.proofs.Middle.{length-words}
 use Rattle.image.proofs.Words.{head-gates, head-outputs}
-use Rattle.calls.specs.Judgements.{Call, open-image, toggle-input, set-flip, read-netlist, read-gate, take-average, openJudgement, judgement}
+use Rattle.calls.specs.Judgements.{Call, open-image, toggle-input, set-flip, read-netlist, read-gate, take-average, count-seen}
+use Rattle.calls.specs.Judgements.{openJudgement, judgement}
 use Rattle.calls.specs.Calls.{openWords, work}
 use Rattle.calls.proofs.Judgements.{open-fine, lent-fine, set-fine}
 use Rattle.book.specs.Statement.{neededBy, Untouched, PastUntouched}
@@ -54,6 +55,7 @@ work-untouched ws (set-flip g kind field) e =
 work-untouched ws read-netlist e = frame-untouched ws ws (same-refl ws)
 work-untouched ws (read-gate g) e = frame-untouched ws ws (same-refl ws)
 work-untouched ws (take-average weights) e = frame-untouched ws _ (same-work-all ws)
+work-untouched ws (count-seen method patterns slots) e = frame-untouched ws ws (same-refl ws)
 
 pub past-untouched : PastUntouched
 past-untouched ws call = go (judgement ws call) refl

@@ -10,7 +10,8 @@ use Rattle.netlist.specs.Netlist.{Gate, Netlist, gateAt}
 use Rattle.area.specs.Rules.{roomJudgement}
 use Rattle.work.specs.Work.{invertBit}
 use Rattle.image.specs.Netlist.{imageNet}
-use Rattle.calls.specs.Judgements.{Call, open-image, toggle-input, set-flip, read-netlist, read-gate, take-average, openJudgement, argumentJudgement}
+use Rattle.calls.specs.Judgements.{Call, open-image, toggle-input, set-flip, read-netlist, read-gate, take-average, count-seen}
+use Rattle.calls.specs.Judgements.{openJudgement, argumentJudgement}
 
 -- a netlist, whose gates have their flip kind and their chance before conversion, and a pattern
 pub record Book : Type 0 where
@@ -21,7 +22,7 @@ pub record Book : Type 0 where
 abbrev pub imageBook : List ℕ → Book
 imageBook bs = record { net = imageNet bs; pattern = 0 }
 
--- ---- which refusal a call gets, for an area of `size` words: at opening by the image; elsewhere 13 by the book's counts, then 10, 11, 12
+-- ---- which refusal a call gets, for an area of `size` words: at opening by the image; elsewhere 13 by the book's counts, then the arguments'
 
 unfoldable pub heldJudgement : Book → ℕ → Call → Judgement
 heldJudgement b size call =
@@ -34,6 +35,7 @@ bookJudgement b size (set-flip g kind field) = heldJudgement b size (set-flip g 
 bookJudgement b size read-netlist = heldJudgement b size read-netlist
 bookJudgement b size (read-gate g) = heldJudgement b size (read-gate g)
 bookJudgement b size (take-average weights) = heldJudgement b size (take-average weights)
+bookJudgement b size (count-seen method patterns slots) = heldJudgement b size (count-seen method patterns slots)
 
 -- ---- what a call enters
 
@@ -52,6 +54,7 @@ entered b (set-flip g kind field) = record { net = withFlip (b .net) g kind (fli
 entered b read-netlist = b
 entered b (read-gate g) = b
 entered b (take-average weights) = b
+entered b (count-seen method patterns slots) = b
 
 -- a refused call enters nothing
 abbrev pub bookStep : Book → ℕ → Call → Book

@@ -7,14 +7,18 @@ use lib.ListN.{length, getD}
 use Rattle.refusal.specs.declared.Judgement.the-variants.{Fine, Refused}
 use Rattle.rounding.specs.Rounding.{unitsInOne, Near}
 use Rattle.chance.specs.Number.{chanceScale}
+use Rattle.netlist.specs.declared.Method.the-variants.{Flip}
 use Rattle.netlist.specs.Live.{liveGates}
 use Rattle.netlist.specs.Exact.{exactSum}
 use Rattle.netlist.specs.Average.{totalWeight, exactAverageSum}
+use Rattle.netlist.specs.Seen.{seenCounts}
 use Rattle.bound.specs.Statements.{denominator}
 use Rattle.area.specs.Layout.{gates, outputs, reliabilityWord, needed}
+use Rattle.area.specs.Net.{netOf}
 use Rattle.fresh.specs.Statements.{FiguresHeld}
 use Rattle.image.specs.Image.{imageGates, imageOutputs}
-use Rattle.calls.specs.Judgements.{Call, open-image, toggle-input, set-flip, read-netlist, read-gate, take-average, openJudgement, judgement}
+use Rattle.calls.specs.Judgements.{Call, open-image, toggle-input, set-flip, read-netlist, read-gate, take-average, count-seen}
+use Rattle.calls.specs.Judgements.{openJudgement, judgement}
 use Rattle.calls.specs.Calls.{openWords, averageOf, left}
 use Rattle.book.specs.Book.{Book, imageBook, bookJudgement, bookStep}
 
@@ -48,6 +52,8 @@ AnswerKept ws b (set-flip g kind field) = Unit {0}
 AnswerKept ws b read-netlist = Unit {0}
 AnswerKept ws b (read-gate g) = Unit {0}
 AnswerKept ws b (take-average weights) = AverageWithin (averageOf ws weights) weights b
+-- whichever the method, the counts are those of single flips on the book's netlist
+AnswerKept ws b (count-seen method patterns slots) = seenCounts method (netOf ws [] []) patterns ≡ seenCounts Flip (b .net) patterns
 
 -- a call is refused exactly where the book says, with that number and place, and never with 14
 pub record CallKept (size : ℕ) (ws : List ℕ) (b : Book) (call : Call) : Type 0 where
@@ -75,6 +81,7 @@ neededBy ws (set-flip g kind field) = needed (gates ws) (outputs ws)
 neededBy ws read-netlist = needed (gates ws) (outputs ws)
 neededBy ws (read-gate g) = needed (gates ws) (outputs ws)
 neededBy ws (take-average weights) = needed (gates ws) (outputs ws)
+neededBy ws (count-seen method patterns slots) = needed (gates ws) (outputs ws)
 
 -- vs has the length of ws, and its words from index k on
 pub record Untouched (k : ℕ) (ws vs : List ℕ) : Type 0 where

@@ -1,6 +1,6 @@
 -- The refusals of the calls, walked once: what a call that is not refused knows of its arguments, and which numbers a call may give. Assumes nothing.
-use Prim.Native.Nat.{ℕ, _^_, _≤_, _<_}
-use mathlib.Core.Bool.{Bool, true, not}
+use Prim.Native.Nat.{ℕ, _-_, _^_, _≤_, _<_}
+use mathlib.Core.Bool.{Bool, true, not, _&&_}
 use mathlib.Core.List.{List}
 use mathlib.Core.Path.{_≡_, refl}
 use native.Mathlib.Omega.{arith}
@@ -11,21 +11,23 @@ use Rattle.lists.specs.Lists.{allZero}
 use Rattle.refusal.specs.declared.Judgement.the-variants.{Fine, Refused}
 use Rattle.refusal.specs.Judgement.{refuseUnless, otherwise, lowest}
 use Rattle.refusal.proofs.Laws.{unless-fine, otherwise-fine, otherwise-second, otherwise-first, lowest-fine, otherwise-assoc}
-use Rattle.refusal.proofs.Laws.{Only, BelowRule, only-fine, only-unless, only-otherwise, only-lowest}
+use Rattle.refusal.proofs.Laws.{Only, NotRule, only-fine, only-unless, only-otherwise, only-lowest}
 use Rattle.chance.specs.Flip.{flipAccepted}
-use Rattle.area.specs.Layout.{largestWeight, inputs, gates, needed}
+use Rattle.area.specs.Layout.{largestWeight, mostListed, inputs, gates, needed}
 use Rattle.area.specs.Rules.{roomJudgement, areaJudgement, Sound}
 use Rattle.live.specs.Shared.{sharedJudgement}
 use Rattle.live.proofs.Shared.{only-shared}
+use Rattle.rules.proofs.Facts.{both}
 use Rattle.rules.proofs.Sound.{sound, sound-passes}
 use Rattle.image.specs.Image.{imageGates, imageOutputs}
 use Rattle.image.specs.Refusals.{imageRefusal}
 use Rattle.image.specs.Netlist.{imageNet}
 use Rattle.image.proofs.Numbers.{only-image}
-use Rattle.calls.specs.Judgements.{Call, open-image, toggle-input, set-flip, read-netlist, read-gate, take-average}
-use Rattle.calls.specs.Judgements.{named, flipJudgement, weightJudgement, weightsJudgement, WeightsFit, openJudgement, argumentJudgement, lentJudgement}
+use Rattle.calls.specs.Judgements.{Call, open-image, toggle-input, set-flip, read-netlist, read-gate, take-average, count-seen}
+use Rattle.calls.specs.Judgements.{named, flipJudgement, weightJudgement, weightsJudgement, WeightsFit, listedJudgement, countsJudgement}
+use Rattle.calls.specs.Judgements.{openJudgement, argumentJudgement, lentJudgement}
 
--- ---- 10, 11, 12, 13
+-- ---- 10 to 13, 15 to 17
 
 pub named-fine : (x count : ℕ) → named x count ≡ Fine → x < count
 named-fine x count e = ltb-true x count (unless-fine (ltb x count) 10 x e)
@@ -55,6 +57,16 @@ weights-fine n weights e =
       small = λ q l. leb-true _ _ (unless-fine _ 12 q (lowest-fine (weightJudgement weights) (length weights) q l (later .0)));
       some = not-true _ (unless-fine _ 12 0 (later .1));
     }
+
+-- of a list and a slice that pass, what the work needs
+pub counts-fine : (n g : ℕ) (patterns : List ℕ) (slots : ℕ) → countsJudgement n g patterns slots ≡ Fine → (length patterns ≤ mostListed) × (g ≤ slots)
+unfolding countsJudgement
+counts-fine n g patterns slots e =
+    let some = leb 1 (length patterns) in
+    let few = leb (length patterns) mostListed in
+    let first = otherwise-fine (refuseUnless (some && few) 15 0) _ e in
+    let later = otherwise-fine (lowest (listedJudgement n patterns) (length patterns)) _ (first .1) in
+    (leb-true _ _ (both some few (unless-fine _ 15 0 (first .0)) .1), leb-true _ _ (unless-fine _ 17 0 (later .1)))
 
 -- ---- a call on an open area
 
@@ -109,34 +121,45 @@ open-fine bs size e =
 
 -- ---- the numbers: none is 0, and 14 is the area's alone
 
-pub only-room : (g k size : ℕ) → Only BelowRule (roomJudgement g k size)
-only-room g k size = only-unless BelowRule (leb (needed g k) size) 13 0 (omega arith, omega arith)
+pub only-room : (g k size : ℕ) → Only NotRule (roomJudgement g k size)
+only-room g k size = only-unless NotRule (leb (needed g k) size) 13 0 (omega arith, omega arith)
 
-only-weights : (n : ℕ) (weights : List ℕ) → Only BelowRule (weightsJudgement n weights)
+only-weights : (n : ℕ) (weights : List ℕ) → Only NotRule (weightsJudgement n weights)
 unfolding weightsJudgement
 only-weights n weights =
-    let one : (c : Bool) (p : ℕ) → Only BelowRule (refuseUnless c 12 p) = λ c p. only-unless BelowRule c 12 p (omega arith, omega arith) in
-    only-otherwise BelowRule _ _ (one (eqb (length weights) (2 ^ n)) 0)
-    (only-otherwise BelowRule _ _
-    (only-lowest BelowRule (weightJudgement weights) (length weights) (λ q. one (leb (getD weights q 0) largestWeight) q))
+    let one : (c : Bool) (p : ℕ) → Only NotRule (refuseUnless c 12 p) = λ c p. only-unless NotRule c 12 p (omega arith, omega arith) in
+    only-otherwise NotRule _ _ (one (eqb (length weights) (2 ^ n)) 0)
+    (only-otherwise NotRule _ _
+    (only-lowest NotRule (weightJudgement weights) (length weights) (λ q. one (leb (getD weights q 0) largestWeight) q))
     (one (not (allZero weights)) 0))
 
-only-named : (x count : ℕ) → Only BelowRule (named x count)
-only-named x count = only-unless BelowRule (ltb x count) 10 x (omega arith, omega arith)
+only-counts : (n g : ℕ) (patterns : List ℕ) (slots : ℕ) → Only NotRule (countsJudgement n g patterns slots)
+unfolding countsJudgement
+only-counts n g patterns slots =
+    only-otherwise NotRule _ _
+    (only-unless NotRule (leb 1 (length patterns) && leb (length patterns) mostListed) 15 0 (omega arith, omega arith))
+    (only-otherwise NotRule _ _
+    (only-lowest NotRule (listedJudgement n patterns) (length patterns) (λ i.
+    only-unless NotRule (leb (getD patterns i 0) (2 ^ n - 1)) 16 i (omega arith, omega arith)))
+    (only-unless NotRule (leb g slots) 17 0 (omega arith, omega arith)))
 
-pub only-arguments : (n g : ℕ) (call : Call) → Only BelowRule (argumentJudgement n g call)
+only-named : (x count : ℕ) → Only NotRule (named x count)
+only-named x count = only-unless NotRule (ltb x count) 10 x (omega arith, omega arith)
+
+pub only-arguments : (n g : ℕ) (call : Call) → Only NotRule (argumentJudgement n g call)
 unfolding argumentJudgement
-only-arguments n g (open-image bs) = only-fine BelowRule
+only-arguments n g (open-image bs) = only-fine NotRule
 only-arguments n g (toggle-input i) = only-named i n
 only-arguments n g (set-flip x kind field) =
-    only-otherwise BelowRule (named x g) (flipJudgement x kind field) (only-named x g)
-    (only-unless BelowRule (flipAccepted kind field) 11 x (omega arith, omega arith))
-only-arguments n g read-netlist = only-fine BelowRule
+    only-otherwise NotRule (named x g) (flipJudgement x kind field) (only-named x g)
+    (only-unless NotRule (flipAccepted kind field) 11 x (omega arith, omega arith))
+only-arguments n g read-netlist = only-fine NotRule
 only-arguments n g (read-gate x) = only-named x g
 only-arguments n g (take-average weights) = only-weights n weights
+only-arguments n g (count-seen method patterns slots) = only-counts n g patterns slots
 
-pub only-open : (bs : List ℕ) (size : ℕ) → Only BelowRule (openJudgement bs size)
+pub only-open : (bs : List ℕ) (size : ℕ) → Only NotRule (openJudgement bs size)
 unfolding openJudgement
 only-open bs size =
-    only-otherwise BelowRule _ _ (only-image bs)
-    (only-otherwise BelowRule _ _ (only-shared (imageNet bs)) (only-room (imageGates bs) (imageOutputs bs) size))
+    only-otherwise NotRule _ _ (only-image bs)
+    (only-otherwise NotRule _ _ (only-shared (imageNet bs)) (only-room (imageGates bs) (imageOutputs bs) size))

@@ -7,9 +7,11 @@ use Rattle.rounding.specs.Rounding.{roundDiv, blend, toUnits}
 use Rattle.chance.specs.Number.{chanceScale, wholeChance, fromZeroToOne}
 use Rattle.chance.specs.Flip.{flipOf, inRange, flipAccepted, chanceOf, flipChance, flipUnits, readUnits}
 use Rattle.figure.specs.Figure.{answer, difference, startValues, gateStep, gateFailure, gateWord, outputStep}
+use Rattle.netlist.specs.declared.Method.the-variants.{Flip, Mask}
 use Rattle.netlist.specs.Netlist.{rightValues}
 use Rattle.netlist.specs.Exact.{exactSum}
 use Rattle.netlist.specs.Live.{liveReads, readers, liveGates}
+use Rattle.netlist.specs.Seen.{flipSeen, sensitive, maskReads, maskSeen, seenCounts}
 use Rattle.area.specs.Rules.{gateShape, usedBelow, countsInRange}
 use Rattle.area.specs.Figures.{gateWordFrom}
 use Rattle.work.specs.Work.{gateFigure, workGate, reliabilityNow, workReliability, workAll}
@@ -28,7 +30,7 @@ unfolding
     openJudgement imageRefusal trailerRefusal lengthRight countsInRange backRight middleRefusal middle gateRefusal outputRefusal gateShape usedBelow
     sharedJudgement readers liveReads liveGates imageNet recordChance recordUnits imageWords middleWords openLive openWords reliabilityFor averageOf
     workAll workReliability reliabilityNow workGate gateFigure gateWordFrom gateWord gateFailure gateStep startValues difference answer outputStep
-    exactSum rightValues
+    exactSum rightValues flipSeen sensitive maskReads maskSeen seenCounts
 sheets-hold ws =
     record {
       conversions-hold = refl;
@@ -38,4 +40,5 @@ sheets-hold ws =
       averages-hold = refl;
       failures-hold = refl;
       exact-hold = refl;
+      counts-hold = elim [ Flip ↦ refl | Mask ↦ refl ];
     }

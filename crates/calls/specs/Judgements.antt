@@ -1,16 +1,18 @@
--- A call as data, and the refusal that it gets, in document 01's order: at opening 1 to 8, then 9, then 13; elsewhere 13 and 14 of the area, then 10, 11, 12.
-use Prim.Native.Nat.{ℕ, _^_, _≤_, _<_}
-use mathlib.Core.Bool.{false, not}
+-- A call as data, and the refusal that it gets, in document 01's order: at opening 1 to 8, then 9, then 13; elsewhere 13 and 14 of the area, then 10, 11,
+-- 12; and, of document 02, card 1, 15, 16, 17.
+use Prim.Native.Nat.{ℕ, _-_, _^_, _≤_, _<_}
+use mathlib.Core.Bool.{false, not, _&&_}
 use mathlib.Core.List.{List}
 use mathlib.Core.Path.{_≡_}
-use lib.Dec.{ltb, eqb}
+use lib.Dec.{leb, ltb, eqb}
 use lib.ListN.{length, getD}
 use Rattle.lists.specs.Lists.{allZero}
 use Rattle.refusal.specs.declared.Judgement.{Judgement}
 use Rattle.refusal.specs.declared.Judgement.the-variants.{Fine}
 use Rattle.refusal.specs.Judgement.{refuseUnless, otherwise, lowest, wordJudgement}
 use Rattle.chance.specs.Flip.{flipAccepted}
-use Rattle.area.specs.Layout.{largestWeight, inputs, gates}
+use Rattle.netlist.specs.declared.Method.{Method}
+use Rattle.area.specs.Layout.{largestWeight, mostListed, inputs, gates}
 use Rattle.area.specs.Rules.{roomJudgement, areaJudgement}
 use Rattle.live.specs.Shared.{sharedJudgement}
 use Rattle.image.specs.Image.{imageGates, imageOutputs}
@@ -25,6 +27,8 @@ pub data Call : Type 0 where
   read-netlist : Call
   read-gate : ℕ → Call
   take-average : List ℕ → Call
+  -- the method, the listed patterns, and the length of the slice that is lent for the counts
+  count-seen : Method → List ℕ → ℕ → Call
 
 -- 10: a call names an input or a gate that does not exist
 abbrev pub named : ℕ → ℕ → Judgement
@@ -49,12 +53,21 @@ pub record WeightsFit (n : ℕ) (weights : List ℕ) : Type 0 where
   pub small : (q : ℕ) → q < length weights → getD weights q 0 ≤ largestWeight
   pub some : allZero weights ≡ false
 
+-- 15: a list of 0 or more than 4,096 patterns; else 16: the lowest position of a pattern that the inputs cannot have; else 17: fewer counts than gates
+abbrev pub listedJudgement : ℕ → List ℕ → ℕ → Judgement
+listedJudgement n patterns = wordJudgement patterns (2 ^ n - 1) 16
+
+unfoldable pub countsJudgement : ℕ → ℕ → List ℕ → ℕ → Judgement
+countsJudgement n g patterns slots =
+    otherwise (refuseUnless (leb 1 (length patterns) && leb (length patterns) mostListed) 15 0)
+    (otherwise (lowest (listedJudgement n patterns) (length patterns)) (refuseUnless (leb g slots) 17 0))
+
 -- opening an image into an area of `size` words
 unfoldable pub openJudgement : List ℕ → ℕ → Judgement
 openJudgement bs size =
     otherwise (imageRefusal bs) (otherwise (sharedJudgement (imageNet bs)) (roomJudgement (imageGates bs) (imageOutputs bs) size))
 
--- 10, 11 and 12 of a call on a netlist with n inputs and g gates; an image is judged by itself
+-- the refusals but 13 and 14 of a call on a netlist with n inputs and g gates; an image is judged by itself
 unfoldable pub argumentJudgement : ℕ → ℕ → Call → Judgement
 argumentJudgement n g (open-image bs) = Fine
 argumentJudgement n g (toggle-input i) = named i n
@@ -62,6 +75,7 @@ argumentJudgement n g (set-flip x kind field) = otherwise (named x g) (flipJudge
 argumentJudgement n g read-netlist = Fine
 argumentJudgement n g (read-gate x) = named x g
 argumentJudgement n g (take-average weights) = weightsJudgement n weights
+argumentJudgement n g (count-seen method patterns slots) = countsJudgement n g patterns slots
 
 -- a call on an open area: the area's own refusal, then the arguments'
 unfoldable pub lentJudgement : List ℕ → Call → Judgement
@@ -75,3 +89,4 @@ judgement ws (set-flip g kind field) = lentJudgement ws (set-flip g kind field)
 judgement ws read-netlist = lentJudgement ws read-netlist
 judgement ws (read-gate g) = lentJudgement ws (read-gate g)
 judgement ws (take-average weights) = lentJudgement ws (take-average weights)
+judgement ws (count-seen method patterns slots) = lentJudgement ws (count-seen method patterns slots)

@@ -1,4 +1,5 @@
--- Document 01's sheets with known results that are to be proved, as one table: conversions of chances, and openings of images with what they come to.
+-- Sheets with known results that are to be proved, as one table: document 01's conversions of chances and openings of images with what they come to, and
+-- for document 02, card 1, in how many listed patterns each gate's flip is seen.
 -- `SheetsHold` says that the definitions give the table; proofs/Sheets.antt proves it.
 use Prim.Native.Nat.{ℕ, _+_, _*_, _/_, _^_}
 use mathlib.Core.List.{List, [], _∷_, _++_, map}
@@ -11,8 +12,11 @@ use Rattle.refusal.specs.Judgement.{unlessRefused}
 use Rattle.chance.specs.declared.FlipUnits.the-variants.{Units}
 use Rattle.chance.specs.Number.{chanceScale}
 use Rattle.chance.specs.Flip.{readUnits}
+use Rattle.netlist.specs.declared.Method.{Method}
 use Rattle.netlist.specs.Exact.{exactSum}
+use Rattle.netlist.specs.Seen.{seenCounts}
 use Rattle.area.specs.Layout.{mostWords, inputs, gates, figure}
+use Rattle.area.specs.Net.{netOf}
 use Rattle.image.specs.Image.{imageInputs, imageGates}
 use Rattle.image.specs.Netlist.{imageNet}
 use Rattle.calls.specs.Judgements.{openJudgement}
@@ -149,6 +153,23 @@ openings =
     ∷ accepted deadReaderImage 2 (replicate 2 536_870_912) 536_870_912 (536_870_912 ∷ 536_870_912 ∷ 536_870_912 ∷ []) (replicate 2 1) 2
     ∷ []
 
+-- ---- counts: an image, listed patterns, and for each gate in how many of them its flip is seen
+
+pub record Counting : Type 0 where
+  pub image : List ℕ
+  pub patterns : List ℕ
+  pub counts : List ℕ
+
+abbrev pub countings : List Counting
+countings =
+    record { image = andInverterImage; patterns = 0 ∷ 1 ∷ 2 ∷ 3 ∷ []; counts = 4 ∷ 4 ∷ [] }
+    ∷ record { image = printedImage; patterns = 0 ∷ 1 ∷ 2 ∷ 3 ∷ []; counts = 2 ∷ 2 ∷ 4 ∷ [] }
+    -- a pattern that is listed twice counts twice
+    ∷ record { image = printedImage; patterns = 3 ∷ 3 ∷ 0 ∷ []; counts = 2 ∷ 2 ∷ 3 ∷ [] }
+    -- a dead gate's flip is never seen
+    ∷ record { image = deadReaderImage; patterns = 0 ∷ 1 ∷ []; counts = 2 ∷ 2 ∷ 0 ∷ [] }
+    ∷ []
+
 -- ---- what the definitions give for each column
 
 -- the reliabilities at all patterns in rising order, everything worked out afresh for each
@@ -182,3 +203,6 @@ pub record SheetsHold (ws : List ℕ) : Type 0 where
   pub exact-hold :
       map (λ (s : Opening). unlessRefused (s .judged) (exactAt (s .image) (s .parts)) []) openings
       ≡ map (λ (s : Opening). scaled (s .image) (s .exact)) openings
+  pub counts-hold : (method : Method)
+      → map (λ (s : Counting). seenCounts method (netOf (openWords (s .image) ws) [] []) (s .patterns)) countings
+      ≡ map (λ (s : Counting). s .counts) countings

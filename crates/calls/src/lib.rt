@@ -1,1 +1,1 @@
-// Definitions only: what each of the six calls judges, answers and leaves stands in specs/.
+// Definitions only: what each call judges, answers and leaves stands in specs/.

@@ -7,7 +7,7 @@ use lib.Dec.{leb}
 use lib.ListN.{length, getD}
 use borrow.Author.Tests.{leb-true}
 use Rattle.refusal.specs.declared.Judgement.the-variants.{Fine}
-use Rattle.refusal.proofs.Laws.{unless-fine, lowest-fine, Only, BelowRule, only-unless, only-lowest}
+use Rattle.refusal.proofs.Laws.{unless-fine, lowest-fine, Only, NotRule, only-unless, only-lowest}
 use Rattle.netlist.specs.Netlist.{Netlist}
 use Rattle.netlist.specs.Live.{readers, SingleReaders}
 use Rattle.area.specs.Layout.{inputs, gates}
@@ -38,8 +38,8 @@ shared-single net e j l =
     (unless-fine _ 9 j (lowest-fine (gateShared (readers net) (net .inputs)) (length (net .gates)) j l e))
 
 -- it gives 9 alone
-pub only-shared : (net : Netlist) → Only BelowRule (sharedJudgement net)
+pub only-shared : (net : Netlist) → Only NotRule (sharedJudgement net)
 unfolding sharedJudgement
 only-shared net =
-    only-lowest BelowRule (gateShared (readers net) (net .inputs)) (length (net .gates)) (λ i.
-    only-unless BelowRule (leb (readers net (net .inputs + i)) 1) 9 i (omega arith, omega arith))
+    only-lowest NotRule (gateShared (readers net) (net .inputs)) (length (net .gates)) (λ i.
+    only-unless NotRule (leb (readers net (net .inputs + i)) 1) 9 i (omega arith, omega arith))

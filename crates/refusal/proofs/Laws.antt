@@ -3,7 +3,7 @@
 use Prim.Native.Nat.{ℕ, zero, suc, _+_, _<_}
 use mathlib.Core.Path.{_≡_, refl, sym, ap, ap₂, subst, _∙_}
 use mathlib.Core.Bool.{Bool, true, false}
-use mathlib.Core.Logic.{⊎-elim}
+use mathlib.Core.Logic.{_≢_, ⊎-elim}
 use native.Mathlib.Numerals.{add-one}
 use native.Mathlib.Omega.{arith}
 use native.Mathlib.Nat.{not-suc-le-zero, eq-or-lt-of-le}
@@ -100,6 +100,6 @@ pub only-lowest : (P : ℕ → Type 0) (f : ℕ → Judgement) (k : ℕ) → ((i
 only-lowest P f zero each = only-fine P
 only-lowest P f (suc k) each = only-otherwise P (lowest f k) (f k) (only-lowest P f k each) (each k)
 
--- the numbers of the input and of the room, 1 to 13: what a call may give where the area keeps its rules
-abbrev pub BelowRule : ℕ → Type 0
-BelowRule number = (0 < number) × (number < 14)
+-- the numbers of the input and of the room, all but 14: what a call may give where the area keeps its rules
+abbrev pub NotRule : ℕ → Type 0
+NotRule number = (0 < number) × (number ≢ 14)

@@ -1,4 +1,4 @@
-// Refusals: what is judged of an image, an area or a call's arguments, and the numbers of document 01.
+// Refusals: what is judged of an image, an area or a call's arguments, and the numbers of document 01 and of document 02, card 1.
 ghost use mathlib.Core.Path.{_≡_};
 ghost use Prim.Native.Nat.{_<_};
 ghost use lib.ListN.{length};
@@ -34,6 +34,12 @@ pub const NOT_THERE: u8 = 10;
 pub const CALL_FLIP: u8 = 11;
 
 pub const WEIGHTS: u8 = 12;
+
+pub const LIST_LENGTH: u8 = 15;
+
+pub const LISTED_PATTERN: u8 = 16;
+
+pub const COUNT_SLICE: u8 = 17;
 
 // Refused because of the state.
 pub const TOO_SHORT: u8 = 13;
