@@ -14,7 +14,7 @@ use Rattle.lists.proofs.Counts.{where-append}
 use Rattle.netlist.specs.declared.Method.{Method}
 use Rattle.netlist.specs.Netlist.{Netlist}
 use Rattle.netlist.specs.Seen.{seenBy, seenCount, seenCounts}
-use Rattle.area.specs.Layout.{mostPatterns}
+use Rattle.area.specs.Layout.{mostListed}
 use Rattle.signals.specs.Signals.{laneCount, InEachLane}
 use Rattle.counts.specs.Counts.{inList, Zeroed, CountsReady, CountsAdded}
 use Rattle.counts.proofs.Windows.{is-or-not, by-order}
@@ -95,7 +95,7 @@ module _ (method : Method) (net : Netlist) (patterns entry : List ℕ) where
       go true rest = omega arith
       go false rest = omega arith
 
-  pub counted-ready : (at : ℕ) (counts : List ℕ) → length patterns ≤ mostPatterns → length (net .gates) ≤ length entry → CountedTo at counts
+  pub counted-ready : (at : ℕ) (counts : List ℕ) → length patterns ≤ mostListed → length (net .gates) ≤ length entry → CountedTo at counts
       → CountsReady (length (net .gates)) counts
   counted-ready at counts few room c =
       record {

@@ -13,7 +13,7 @@ use Rattle.netlist.specs.declared.Method.{Method}
 use Rattle.netlist.specs.Netlist.{Netlist}
 use Rattle.netlist.specs.Live.{isLive}
 use Rattle.netlist.specs.Seen.{sensitive, pinsWhere, maskReadsFrom, seenCount}
-use Rattle.area.specs.Layout.{mostSources, mostPatterns, inputs, gates, table, pinCount, pin, usedPins, outputWords}
+use Rattle.area.specs.Layout.{mostSources, mostListed, inputs, gates, table, pinCount, pin, usedPins, outputWords}
 use Rattle.signals.specs.Signals.{laneCount, lane, InEachLane, rightIn}
 
 -- a test of the pattern in lane l; it fails in the lanes past the list
@@ -134,7 +134,7 @@ pub record Zeroed (g : ℕ) (old new : List ℕ) : Type 0 where
 -- there is a count for each of g gates, with room for a block more
 pub record CountsReady (g : ℕ) (counts : List ℕ) : Type 0 where
   pub long : g ≤ length counts
-  pub few : (j : ℕ) → j < g → getD counts j 0 ≤ mostPatterns
+  pub few : (j : ℕ) → j < g → getD counts j 0 ≤ mostListed
 
 -- one block's counts added, gate by gate
 pub record CountsAdded (method : Method) (net : Netlist) (patterns old new : List ℕ) : Type 0 where

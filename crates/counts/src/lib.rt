@@ -29,7 +29,7 @@ fn listed_lanes(many: usize) -> u64
 
 // The ones of a word, one for each lane in which a flip is seen, are added to a gate's count.
 fn add_ones(counts: &mut [u32], gate: usize, word: u64)
-    requires { ⌜ (gate < length (now counts)) × (getD (now counts) gate 0 ≤ layout.mostPatterns) ⌝ }
+    requires { ⌜ (gate < length (now counts)) × (getD (now counts) gate 0 ≤ layout.mostListed) ⌝ }
     ensures { λ _. ⌜ now (counts .exit) ≡ set (now (counts .entry)) gate (getD (now (counts .entry)) gate 0 + ones word) ⌝ }
     ensures { λ _. ⌜ word < 18_446_744_073_709_551_616 ⌝ }
 {
@@ -309,7 +309,7 @@ fn count_mask(
     gate: usize,
 )
     requires { ⌜ NetSound (now area) × Worked (now area) (now words) × (gate < layout.gates (now area)) ⌝ }
-    requires { ⌜ (gate < length (now counts)) × (getD (now counts) gate 0 ≤ layout.mostPatterns) × (length (now masks) ≡ layout.mostSources) ⌝ }
+    requires { ⌜ (gate < length (now counts)) × (getD (now counts) gate 0 ≤ layout.mostListed) × (length (now masks) ≡ layout.mostSources) ⌝ }
     ensures { λ _. ⌜ now (counts .exit) ≡ set (now (counts .entry)) gate
         (getD (now (counts .entry)) gate 0 + ones (getD (now (masks .entry)) (layout.inputs (now (area .entry)) + gate) 0)) ⌝ }
     ensures { λ _. ⌜ getD (now (masks .entry)) (layout.inputs (now (area .entry)) + gate) 0 < 18_446_744_073_709_551_616 ⌝ }
@@ -394,7 +394,7 @@ fn zero_counts(counts: &mut [u32], many: usize)
 
 // In how many of the listed patterns each gate's flip is seen: one count a gate, block by block of 64 patterns. Counts past the gates stay.
 pub fn count(area: &[u32], patterns: &[u32], counts: &mut [u32], method: Method)
-    requires { ⌜ NetSound (now area) × (length (now patterns) ≤ layout.mostPatterns) × (layout.gates (now area) ≤ length (now counts)) ⌝ }
+    requires { ⌜ NetSound (now area) × (length (now patterns) ≤ layout.mostListed) × (layout.gates (now area) ≤ length (now counts)) ⌝ }
     ensures { λ _. ⌜ now (counts .exit) ≡ seenCounts method (netOf (now (area .entry)) [] []) (now (patterns .entry))
         ++ drop (layout.gates (now (area .entry))) (now (counts .entry)) ⌝ }
 {
