@@ -132,7 +132,7 @@ fn difference(
         pins[2] ^ by[2],
         pins[3] ^ by[3],
     ];
-    signals::gate_answer(area, gate, wrong) ^ words[area::inputs(area) + gate]
+    signals::gate_answer(area, gate, wrong) ^ signals::gate_word(words, area, gate)
 }
 
 // A gate's flip that is being followed: the gates from `gate` on and before `stop` are still to be looked at.
@@ -291,7 +291,7 @@ fn pass_mask(
     let table = area::table(area, gate);
     let count = area::pin_count(area, gate);
     let pins = signals::pin_words(words, area, gate);
-    let right = words[area::inputs(area) + gate];
+    let right = signals::gate_word(words, area, gate);
     let mut i = 0;
     while i < count {
         let source = area::pin(area, gate, i);
@@ -316,7 +316,7 @@ fn count_mask(
     ensures { λ _. ⌜ MaskPassed (now (area .entry)) (now (words .entry)) gate (layout.pinCount (now (area .entry)) gate)
         (now (masks .entry)) (now (masks .exit)) ⌝ }
 {
-    let mask = masks[area::inputs(area) + gate];
+    let mask = signals::gate_word(masks, area, gate);
     if mask == 0 {
         return;
     }

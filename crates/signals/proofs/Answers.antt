@@ -76,9 +76,11 @@ module _ (table l w : ℕ) (less : l < laneCount) where
       go (suc zero) e h = odd-by (table / 2 ^ 0 % 2) 1 (lane-all l less) (omega (arith, div-one table))
       go (suc (suc t)) e h = absurd (omega arith)
 
--- four words as the list that they make
-pub lanes-of : (l count : ℕ) (words : List ℕ) → length words ≡ 4
-    → pinLanes l count (getD words 0 0 ∷ getD words 1 0 ∷ getD words 2 0 ∷ getD words 3 0 ∷ []) ≡ pinLanes l count words
+-- four words one by one are the list that they make
+abbrev pub first-lanes : ℕ → ℕ → List ℕ → List Bool
+first-lanes l count words = pinLanes l count (getD words 0 0 ∷ getD words 1 0 ∷ getD words 2 0 ∷ getD words 3 0 ∷ [])
+
+pub lanes-of : (l count : ℕ) (words : List ℕ) → length words ≡ 4 → first-lanes l count words ≡ pinLanes l count words
 lanes-of l count words four = ap (pinLanes l count) (sym (four-of words four))
 
 -- ---- one pin inverted

@@ -136,6 +136,14 @@ pub fn word_of(words: &[u64; area::MOST_SOURCES], source: u32) -> u64
     words[area::index(source)]
 }
 
+// A gate's word.
+pub fn gate_word(words: &[u64; area::MOST_SOURCES], area: &[u32], gate: usize) -> u64
+    requires { ⌜ NetSound (now area) × (gate < layout.gates (now area)) ⌝ }
+    ensures { λ r. ⌜ r ≡ getD (now (words .entry)) (layout.inputs (now (area .entry)) + gate) 0 ⌝ }
+{
+    words[area::inputs(area) + gate]
+}
+
 // What a gate's four pins read, used or not: an unused pin is 0, and source 0 has a word.
 pub fn pin_words(words: &[u64; area::MOST_SOURCES], area: &[u32], gate: usize) -> [u64; 4]
     requires { ⌜ NetSound (now area) × (gate < layout.gates (now area)) ⌝ }

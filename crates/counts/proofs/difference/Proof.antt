@@ -1,11 +1,7 @@
 -- `counts::difference` meets its contract: no pin changes, or the answers are compared. Assumes nothing.
-use Prim.Native.Nat.{ℕ, _+_}
 use mathlib.Core.Path.{ap, _∙_}
-use native.Mathlib.Omega.{arith}
 use borrow.Author.Needs.{needs}
-use lib.ListN.{getD}
 use Rattle.signals.specs.Signals.{lane}
-use Rattle.area.proofs.Words.{few-sources}
 use Rattle.counts.proofs.Changes.{unchanged-answer, changed-difference}
 use Rattle.counts.proofs.difference.Statement.{statement}
 use Rattle.counts.proofs.difference.Tie as tie
@@ -18,31 +14,16 @@ returns c l less =
     unchanged-answer (a .area .now) (a .words .now) (a .changed .now) (at-pin-words .result) (s .pre .0 .0) (a .gate) (s .pre .0 .1)
     (at-pin-words .ensures) (c .if1 .taken) l
 
-add-result : tie.Need-add-result
-add-result c =
-    let s = c .before .before .before .before .before .before in
-    omega (arith, c .inputs .ensures, few-sources (s .args .area .now) (s .pre .0 .0), s .pre .0 .1)
-
-mul-result : tie.Need-mul-result
-mul-result c =
-    let s = c .before .before .before .before .before .before in
-    omega (arith, c .inputs .ensures, few-sources (s .args .area .now) (s .pre .0 .0), s .pre .0 .1)
-
-element-copy-out-result : tie.Need-element-copy-out-result
-element-copy-out-result c =
-    let s = c .before .before .before .before .before .before in
-    omega (arith, c .inputs .ensures, few-sources (s .args .area .now) (s .pre .0 .0), s .pre .0 .1)
-
 returns-2 : tie.Need-returns-2
 returns-2 c l less =
-    let s = c .before .before .before .before .before .before .before in
-    let at-pin-words = c .before .before .before .before .before .pin-words in
-    let at-pin-words2 = c .before .before .before .pin-words2 in
-    let at-gate-answer = c .before .before .gate-answer in
+    let s = c .before .before .before .before .before .before in
+    let at-pin-words = c .before .before .before .before .pin-words in
+    let at-pin-words2 = c .before .before .pin-words2 in
+    let at-gate-answer = c .before .gate-answer in
     let a = s .args in
     changed-difference (a .area .now) (a .words .now) (a .changed .now) (at-pin-words .result) (s .pre .0 .0) (a .gate) (s .pre .0 .1) (at-pin-words .ensures)
-    (at-pin-words2 .result) (at-gate-answer .result) _ l (at-pin-words2 .ensures) (at-gate-answer .ensures l less)
-    (ap (λ (n : ℕ). lane l (getD (a .words .now) (n + a .gate) 0)) (c .before .inputs .ensures) ∙ s .pre .1 l less)
+    (at-pin-words2 .result) (at-gate-answer .result) (c .gate-word .result) l (at-pin-words2 .ensures) (at-gate-answer .ensures l less)
+    (ap (lane l) (c .gate-word .ensures) ∙ s .pre .1 l less)
 
 pub difference-spec : {M : Type 1} → statement M
 difference-spec =
@@ -65,7 +46,4 @@ difference-spec =
     (λ c. search needs)
     (λ c κs. search needs)
     (λ c κs. search needs)
-    add-result
-    mul-result
-    element-copy-out-result
     returns-2)

@@ -32,62 +32,47 @@ pin-words-requires c κs =
     let s = c .before .before .before in
     (s .pre .0 .0, s .pre .0 .2)
 
-inputs-requires : tie.Need-inputs-requires Inv-loop μ-loop
-inputs-requires c κs =
+gate-word-requires : tie.Need-gate-word-requires Inv-loop μ-loop
+gate-word-requires c κs =
     let s = c .before .before .before .before in
-    omega (arith, s .pre .0 .0 .long)
-
-add-right : tie.Need-add-right Inv-loop μ-loop
-add-right c =
-    let s = c .before .before .before .before .before in
-    omega (arith, c .inputs .ensures, few-sources (s .args .area .now) (s .pre .0 .0), s .pre .0 .2)
-
-mul-right : tie.Need-mul-right Inv-loop μ-loop
-mul-right c =
-    let s = c .before .before .before .before .before in
-    omega (arith, c .inputs .ensures, few-sources (s .args .area .now) (s .pre .0 .0), s .pre .0 .2)
-
-element-copy-out-right : tie.Need-element-copy-out-right Inv-loop μ-loop
-element-copy-out-right c =
-    let s = c .before .before .before .before .before in
-    omega (arith, c .inputs .ensures, few-sources (s .args .area .now) (s .pre .0 .0), s .pre .0 .2)
+    (s .pre .0 .0, s .pre .0 .2)
 
 loop-holds : tie.Need-loop-holds Inv-loop μ-loop
 loop-holds c =
-    let s = c .before .before .before .before .before .before in
-    (omega arith, passed-none (s .args .area .now) (s .args .words .now) (s .pre .0 .0) (s .args .gate) (s .pre .0 .2) (s .args .masks .now) (s .pre .1 .0))
+    let s = c .before .before .before .before .before in
+    let a = s .args in
+    (omega arith, passed-none (a .area .now) (a .words .now) (s .pre .0 .0) (a .gate) (s .pre .0 .2) (a .masks .now) (s .pre .1 .0))
 
 pin-requires : tie.Need-pin-requires Inv-loop μ-loop
 pin-requires c κs =
-    let s = c .before .before .before .before .before .before .before .before in
-    let at-pin-count = c .before .before .before .before .before .pin-count in
-    let sound = s .pre .0 .0 in (
-      omega (arith, at-pin-count .ensures, sound .gate (s .args .gate) (s .pre .0 .2) .pin-count),
-      gate-inside (s .args .area .now) sound (s .args .gate) (s .pre .0 .2),
-    )
+    let s = c .before .before .before .before .before .before .before in
+    let at-pin-count = c .before .before .before .before .pin-count in
+    let a = s .args in
+    let few = s .pre .0 .0 .gate (a .gate) (s .pre .0 .2) .pin-count in
+    (omega (arith, at-pin-count .ensures, few), gate-inside (a .area .now) (s .pre .0 .0) (a .gate) (s .pre .0 .2))
 
 sensitive-word-requires : tie.Need-sensitive-word-requires Inv-loop μ-loop
 sensitive-word-requires c κs =
-    let s = c .before .before .before .before .before .before .before .before .before in
-    let at-table = c .before .before .before .before .before .before .before .table in
-    let at-pin-count = c .before .before .before .before .before .before .pin-count in
-    let at-pin-words = c .before .before .before .before .before .pin-words in
-    let at-inputs = c .before .before .before .before .inputs in
+    let s = c .before .before .before .before .before .before .before .before in
+    let at-table = c .before .before .before .before .before .before .table in
+    let at-pin-count = c .before .before .before .before .before .pin-count in
+    let at-pin-words = c .before .before .before .before .pin-words in
+    let at-gate-word = c .before .before .before .gate-word in
     let a = s .args in
-    let sound = s .pre .0 .0 in
+    let few = s .pre .0 .0 .gate (a .gate) (s .pre .0 .2) .pin-count in
     let known = pins-answer (a .area .now) (a .words .now) (a .gate) _ (s .pre .0 .1 (a .gate) (s .pre .0 .2)) in (
-      (omega (arith, at-pin-count .ensures, sound .gate (a .gate) (s .pre .0 .2) .pin-count), omega arith),
-      rw (at-table .ensures, at-pin-count .ensures, at-pin-words .ensures, at-inputs .ensures) known,
+      (omega (arith, at-pin-count .ensures, few), omega arith),
+      rw (at-table .ensures, at-pin-count .ensures, at-pin-words .ensures, at-gate-word .ensures) known,
     )
 
 -- a used pin names a source
 module _ (c : tie.After-sensitive-word Inv-loop μ-loop) where
   source-inside : c .before .pin .result < layout.mostSources
   source-inside =
-      let s = c .before .before .before .before .before .before .before .before .before .before in
+      let s = c .before .before .before .before .before .before .before .before .before in
       let ws = s .args .area .now in
       let i = c .before .before .before .loop .i in
-      let used : i < layout.pinCount ws (s .args .gate) = omega (arith, c .before .before .before .before .before .before .before .pin-count .ensures) in
+      let used : i < layout.pinCount ws (s .args .gate) = omega (arith, c .before .before .before .before .before .before .pin-count .ensures) in
       omega (arith, c .before .pin .ensures, pin-below ws (s .pre .0 .0) (s .args .gate) (s .pre .0 .2) i used, few-sources ws (s .pre .0 .0), s .pre .0 .2)
 
 mul-masks : tie.Need-mul-masks Inv-loop μ-loop
@@ -101,27 +86,26 @@ element-write-masks c = omega (arith, source-inside (c .before))
 
 loop-again : tie.Need-loop-again Inv-loop μ-loop
 loop-again c =
-    let s = c .before .before .before .before .before .before .before .before .before .before .before in
-    let at-table = c .before .before .before .before .before .before .before .before .before .table in
-    let at-pin-count = c .before .before .before .before .before .before .before .before .pin-count in
-    let at-pin-words = c .before .before .before .before .before .before .before .pin-words in
-    let at-sensitive-word = c .before .sensitive-word in
+    let s = c .before .before .before .before .before .before .before .before .before .before in
+    let at-table = c .before .before .before .before .before .before .before .before .table in
+    let at-pin-count = c .before .before .before .before .before .before .before .pin-count in
+    let at-pin-words = c .before .before .before .before .before .before .pin-words in
     let l = c .before .before .before .before .loop in
     let a = s .args in
     let ws = a .area .now in
-    let sound = s .pre .0 .0 in
+    let word = c .before .sensitive-word in
     let used : l .i < layout.pinCount ws (a .gate) = omega (arith, at-pin-count .ensures) in
-    let lanes = rw (at-table .ensures, at-pin-count .ensures, at-pin-words .ensures) at (at-sensitive-word .ensures) in
-    let passed = passed-more ws (a .words .now) sound (a .gate) (s .pre .0 .2) (l .i) used (a .masks .now) (l .masks) (at-sensitive-word .result) (a .mask)
+    let lanes = rw (at-table .ensures, at-pin-count .ensures, at-pin-words .ensures) at (word .ensures) in
+    let passed = passed-more ws (a .words .now) (s .pre .0 .0) (a .gate) (s .pre .0 .2) (l .i) used (a .masks .now) (l .masks) (word .result) (a .mask)
     (l .inv .1) (s .pre .1 .1)
-    (omega (arith, pin-below ws sound (a .gate) (s .pre .0 .2) (l .i) used, few-sources ws sound, s .pre .0 .2))
-    (pins-sensitive ws (a .words .now) (a .gate) (at-sensitive-word .result) (l .i) lanes) in
+    (omega (arith, pin-below ws (s .pre .0 .0) (a .gate) (s .pre .0 .2) (l .i) used, few-sources ws (s .pre .0 .0), s .pre .0 .2))
+    (pins-sensitive ws (a .words .now) (a .gate) (word .result) (l .i) lanes) in
     (omega arith, rw (c .before .before .pin .ensures) passed)
 
 returns : tie.Need-returns Inv-loop μ-loop
 returns c =
-    let s = c .before .before .before .before .before .before .before .before in
-    let at-pin-count = c .before .before .before .before .before .pin-count in
+    let s = c .before .before .before .before .before .before .before in
+    let at-pin-count = c .before .before .before .before .pin-count in
     let l = c .before .loop in
     let end : l .i ≡ layout.pinCount (s .args .area .now) (s .args .gate) = omega (arith, at-pin-count .ensures) in
     rw end at (l .inv .1)
@@ -135,10 +119,7 @@ pass-mask-spec =
     table-requires
     pin-count-requires
     pin-words-requires
-    inputs-requires
-    add-right
-    mul-right
-    element-copy-out-right
+    gate-word-requires
     loop-holds
     pin-requires
     sensitive-word-requires

@@ -45,26 +45,23 @@ gate-answer-requires c κs =
     let at-gates = c .before .before .before .before .before .gates in
     (s .pre .0, omega (arith, at-gates .ensures))
 
+-- a gate's source has a word
+module _ (c : tie.After-gate-answer Inv-loop μ-loop) where
+  source-inside : c .before .before .before .before .before .before .before .inputs .result + c .before .before .before .before .loop .gate < layout.mostSources
+  source-inside =
+      let s = c .before .before .before .before .before .before .before .before .before .before in
+      let at-inputs = c .before .before .before .before .before .before .before .inputs in
+      let at-gates = c .before .before .before .before .before .before .gates in
+      omega (arith, at-gates .ensures, at-inputs .ensures, few-sources (s .args .area .now) (s .pre .0))
+
 add-words : tie.Need-add-words Inv-loop μ-loop
-add-words c =
-    let s = c .before .before .before .before .before .before .before .before .before .before in
-    let at-inputs = c .before .before .before .before .before .before .before .inputs in
-    let at-gates = c .before .before .before .before .before .before .gates in
-    omega (arith, at-gates .ensures, at-inputs .ensures, few-sources (s .args .area .now) (s .pre .0))
+add-words c = omega (arith, source-inside c)
 
 mul-words : tie.Need-mul-words Inv-loop μ-loop
-mul-words c =
-    let s = c .before .before .before .before .before .before .before .before .before .before in
-    let at-inputs = c .before .before .before .before .before .before .before .inputs in
-    let at-gates = c .before .before .before .before .before .before .gates in
-    omega (arith, at-gates .ensures, at-inputs .ensures, few-sources (s .args .area .now) (s .pre .0))
+mul-words c = omega (arith, source-inside c)
 
 array-write-words : tie.Need-array-write-words Inv-loop μ-loop
-array-write-words c =
-    let s = c .before .before .before .before .before .before .before .before .before .before in
-    let at-inputs = c .before .before .before .before .before .before .before .inputs in
-    let at-gates = c .before .before .before .before .before .before .gates in
-    omega (arith, at-gates .ensures, at-inputs .ensures, few-sources (s .args .area .now) (s .pre .0))
+array-write-words c = omega (arith, source-inside c)
 
 loop-again : tie.Need-loop-again Inv-loop μ-loop
 loop-again c =
