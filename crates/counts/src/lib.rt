@@ -45,7 +45,7 @@ fn larger(x: usize, y: usize) -> usize
     x
 }
 
-// The gate to look at after the gate before `next`: where the window ends there, none before the first reader of the gate that changed.
+// Which gate to look at: the next one, or, where the window ends before it, none below the first reader of the gate that has just changed.
 fn next_gate(next: usize, stop: usize, reader: usize) -> usize
     ensures { λ r. ⌜ r ≡ cond (eqb next stop) (max next reader) next ⌝ }
 {
