@@ -1,8 +1,8 @@
 -- Masks passed back from the outputs: one output after another, one pin after another, one gate after another from the last to the first. Assumes nothing.
-use Prim.Native.Nat.{ℕ, zero, suc, _+_, _<_}
+use Prim.Native.Nat.{_≤_, ℕ, zero, suc, _+_, _<_}
 use mathlib.Core.Bool.{Bool, true, false, cond, _&&_, _||_}
 use mathlib.Core.List.{List, [], _∷_, _++_, map}
-use mathlib.Core.Path.{_≡_, refl, sym, ap, ap₂, _∙_}
+use mathlib.Core.Path.{subst, _≡_, refl, sym, ap, ap₂, _∙_}
 use native.Mathlib.Nat.{add-zero, zero-add}
 use native.Mathlib.Numerals.{add-one}
 use native.Mathlib.Omega.{arith}
@@ -97,7 +97,7 @@ gathered false false c false = refl
 
 module _ (ws words : List ℕ) (sound : NetSound ws) (j : ℕ) (inside : j < gates ws) where
   pub passed-none : (masks : List ℕ) → length masks ≡ mostSources → MaskPassed ws words j 0 masks masks
-  passed-none masks long = record { long = long; mask = λ l s less. sym (none (lane l (getD masks s 0)) (lane l (getD masks (inputs ws + j) 0))) }
+  passed-none masks long = record { long = long; mask = λ l s less gate. sym (none (lane l (getD masks s 0)) (lane l (getD masks (inputs ws + j) 0))) }
     where
       none : (a m : Bool) → a || (m && false) ≡ a
       none true m = refl
@@ -110,7 +110,7 @@ module _ (ws words : List ℕ) (sound : NetSound ws) (j : ℕ) (inside : j < gat
       record {
         long = long;
         mask =
-            λ l s less.
+            λ l s less gate.
             sym (ap (λ (m : Bool). lane l (getD masks s 0) || (m && isLive (count s (sensitiveIn ws words j l i)))) (ap (lane l) zero-mask ∙ lane-zero l)
             ∙ or-false (lane l (getD masks s 0)));
       }
@@ -131,13 +131,25 @@ module _ (ws words : List ℕ) (sound : NetSound ws) (j : ℕ) (inside : j < gat
         ap (pinsWhere t 0) (one ∙ ap (λ (p : ℕ). take i (usedPins ws j) ++ (p ∷ [])) (sym (used-pin ws sound j inside i used)))
         ∙ where-more t (take i (usedPins ws j)) (pin ws j i) 0 i (omega (arith, length-take i (usedPins ws j)))
 
+    -- of a source that the pin does not read
+    not-this : (l s : ℕ) (old : List ℕ) → (s ≡ pin ws j i → ⊥)
+        → lane l (getD old s 0) || (lane l (getD old (inputs ws + j) 0) && isLive (count s (sensitiveIn ws words j l (i + 1))))
+        ≡ lane l (getD old s 0) || (lane l (getD old (inputs ws + j) 0) && isLive (count s (sensitiveIn ws words j l i)))
+    not-this l s old other =
+        let t : Bool = sensitive (table ws j) (map (λ (p : ℕ). lane l (getD words p 0)) (usedPins ws j)) i in
+        ap (λ (n : ℕ). lane l (getD old s 0) || (lane l (getD old (inputs ws + j) 0) && isLive n))
+        (ap (count s) (next-sensitive l)
+        ∙ count-append s (sensitiveIn ws words j l i) (cond t (pin ws j i ∷ []) [])
+        ∙ ap (λ (n : ℕ). count s (sensitiveIn ws words j l i) + n) (single-other s (pin ws j i) t other)
+        ∙ add-zero (count s (sensitiveIn ws words j l i)))
+
     pub passed-more : (old new : List ℕ) (word mask : ℕ) → MaskPassed ws words j i old new → mask ≡ getD old (inputs ws + j) 0 → pin ws j i < mostSources
         → InEachLane word (λ l. sensitive (table ws j) (map (λ (p : ℕ). lane l (getD words p 0)) (usedPins ws j)) i)
         → MaskPassed ws words j (i + 1) old (set new (pin ws j i) (bitOr (getD new (pin ws j i) 0) (bitAnd word mask)))
     passed-more old new word mask h e source lanes =
         record {
           long = length-set new p joined-word ∙ h .long;
-          mask = λ l s less. is-or-not s p (λ q. rw q (here l less)) (λ other. elsewhere l s less other);
+          mask = λ l s less gate. is-or-not s p (λ q. rw q (here l less (subst (λ (t : ℕ). inputs ws ≤ t) q gate))) (λ other. elsewhere l s less gate other);
         }
       where
         p : ℕ
@@ -149,12 +161,12 @@ module _ (ws words : List ℕ) (sound : NetSound ws) (j : ℕ) (inside : j < gat
         t : ℕ → Bool
         t l = sensitive (table ws j) (map (λ (p : ℕ). lane l (getD words p 0)) (usedPins ws j)) i
 
-        here : (l : ℕ) → l < laneCount → lane l (getD (set new p joined-word) p 0)
+        here : (l : ℕ) → l < laneCount → inputs ws ≤ p → lane l (getD (set new p joined-word) p 0)
             ≡ lane l (getD old p 0) || (lane l (getD old (inputs ws + j) 0) && isLive (count p (sensitiveIn ws words j l (i + 1))))
-        here l less =
+        here l less gate =
             ap (lane l) (getD-set-same new p joined-word 0 (omega (arith, h .long)))
             ∙ lane-or l (getD new p 0) (bitAnd word mask)
-            ∙ ap₂ _||_ (h .mask l p less) (lane-and l word mask ∙ ap₂ _&&_ (lanes l less) (ap (lane l) e))
+            ∙ ap₂ _||_ (h .mask l p less gate) (lane-and l word mask ∙ ap₂ _&&_ (lanes l less) (ap (lane l) e))
             ∙ gathered (lane l (getD old p 0)) (lane l (getD old (inputs ws + j) 0)) (isLive (count p (sensitiveIn ws words j l i))) (t l)
             ∙ ap (λ (b : Bool). lane l (getD old p 0) || (lane l (getD old (inputs ws + j) 0) && b))
             (sym (ap (λ (xs : List ℕ). isLive (count p xs)) (next-sensitive l)
@@ -162,16 +174,14 @@ module _ (ws words : List ℕ) (sound : NetSound ws) (j : ℕ) (inside : j < gat
             ∙ live-sum (count p (sensitiveIn ws words j l i)) (count p (cond (t l) (p ∷ []) []))
             ∙ ap (λ (b : Bool). isLive (count p (sensitiveIn ws words j l i)) || b) (single-here p (t l))))
 
-        elsewhere : (l s : ℕ) → l < laneCount → (s ≡ p → ⊥) → lane l (getD (set new p joined-word) s 0)
+        elsewhere : (l s : ℕ) → l < laneCount → inputs ws ≤ s → (s ≡ p → ⊥) → lane l (getD (set new p joined-word) s 0)
             ≡ lane l (getD old s 0) || (lane l (getD old (inputs ws + j) 0) && isLive (count s (sensitiveIn ws words j l (i + 1))))
-        elsewhere l s less other =
-            ap (lane l) (getD-set-other new p s joined-word 0 other)
-            ∙ h .mask l s less
-            ∙ ap (λ (n : ℕ). lane l (getD old s 0) || (lane l (getD old (inputs ws + j) 0) && isLive n))
-            (sym (ap (count s) (next-sensitive l)
-            ∙ count-append s (sensitiveIn ws words j l i) (cond (t l) (p ∷ []) [])
-            ∙ ap (λ (n : ℕ). count s (sensitiveIn ws words j l i) + n) (single-other s p (t l) other)
-            ∙ add-zero (count s (sensitiveIn ws words j l i))))
+        elsewhere l s less gate other = ap (lane l) (getD-set-other new p s joined-word 0 other) ∙ h .mask l s less gate ∙ sym (not-this l s old other)
+
+    -- a pin that reads an input passes nothing on
+    pub passed-by : (old new : List ℕ) → MaskPassed ws words j i old new → pin ws j i < inputs ws → MaskPassed ws words j (i + 1) old new
+    passed-by old new h input =
+        record { long = h .long; mask = λ l s less gate. h .mask l s less gate ∙ sym (not-this l s old (λ e. omega arith)) }
 
 -- ---- the gates, from the last to the first
 
@@ -183,7 +193,7 @@ module _ (ws patterns : List ℕ) where
       record {
         long = h .long;
         mask =
-            λ l s less.
+            λ l s less gate.
             ap (lane l) (h .mask s) ∙ chosen l less (isLive (count s (outputWords ws)))
             ∙ ap (λ (gs : List Gate). ltb l (length patterns) && isLive (count s (reads-by l gs))) (sym no-gates);
       }
@@ -221,16 +231,16 @@ module _ (ws patterns : List ℕ) where
     abbrev rest : ℕ → List ℕ
     rest l = maskReadsFrom (rightIn net patterns l) (net .outputs) (suc (inputs ws + j)) (drop (suc j) (net .gates))
 
-    mask-rest : (l s : ℕ) → l < laneCount → lane l (getD masks s 0) ≡ ltb l (length patterns) && isLive (count s (rest l))
-    mask-rest l s less =
+    mask-rest : (l s : ℕ) → l < laneCount → inputs ws ≤ s → lane l (getD masks s 0) ≡ ltb l (length patterns) && isLive (count s (rest l))
+    mask-rest l s less gate =
         let e : inputs ws + suc j ≡ suc (inputs ws + j) = omega arith in
-        h .mask l s less
+        h .mask l s less gate
         ∙ ap (λ (n : ℕ). ltb l (length patterns) && isLive (count s (maskReadsFrom (rightIn net patterns l) (net .outputs) n (drop (suc j) (net .gates))))) e
 
     -- gate j's mask tells where it is seen
     pub mask-lanes : InEachLane (getD masks (inputs ws + j) 0) (inList patterns (λ q. maskSeen net q j))
     mask-lanes l less =
-        mask-rest l (inputs ws + j) less
+        mask-rest l (inputs ws + j) less (omega arith)
         ∙ ap (λ (b : Bool). ltb l (length patterns) && b) (sym (mask-settled net (sound-pins ws [] [] sound) (getD patterns l 0) j few))
 
     same-sensitive : (l : ℕ) → l < laneCount → sensitiveIn ws words j l (pinCount ws j) ≡ sensitivePins (rightIn net patterns l) (gateAt net j)
@@ -248,9 +258,11 @@ module _ (ws patterns : List ℕ) where
         record {
           long = p .long;
           mask =
-              λ l s less.
-              p .mask l s less
-              ∙ ap₂ _||_ (mask-rest l s less) (ap₂ _&&_ (mask-rest l (inputs ws + j) less) (ap (λ (xs : List ℕ). isLive (count s xs)) (same-sensitive l less)))
+              λ l s less gate.
+              p .mask l s less gate
+              ∙ ap₂ _||_
+              (mask-rest l s less gate)
+              (ap₂ _&&_ (mask-rest l (inputs ws + j) less (omega arith)) (ap (λ (xs : List ℕ). isLive (count s xs)) (same-sensitive l less)))
               ∙ out (ltb l (length patterns)) (isLive (count s (rest l))) (isLive (count (inputs ws + j) (rest l))) (isLive (count s (sens l)))
               ∙ ap (λ (b : Bool). ltb l (length patterns) && b) (sym (reads l s));
         }

@@ -108,18 +108,18 @@ abbrev pub sensitiveIn : List ℕ → List ℕ → ℕ → ℕ → ℕ → List 
 sensitiveIn ws words j l i =
     pinsWhere (sensitive (table ws j) (map (λ (p : ℕ). lane l (getD words p 0)) (usedPins ws j))) 0 (take i (usedPins ws j))
 
--- gate j's mask passed to the sources of its first i pins, in the lanes in which a pin is sensitive
+-- gate j's mask passed to the gates that its first i pins read, in the lanes in which a pin is sensitive
 pub record MaskPassed (ws words : List ℕ) (j i : ℕ) (old new : List ℕ) : Type 0 where
   pub long : length new ≡ mostSources
   pub mask :
-      (l s : ℕ) → l < laneCount
+      (l s : ℕ) → l < laneCount → inputs ws ≤ s
       → lane l (getD new s 0) ≡ lane l (getD old s 0) || (lane l (getD old (inputs ws + j) 0) && isLive (count s (sensitiveIn ws words j l i)))
 
--- the masks of all sources once the gates from j on are passed, in the lanes that have a listed pattern
+-- the masks of all gates once the gates from j on have passed theirs, in the lanes that have a listed pattern
 pub record MasksFrom (net : Netlist) (patterns : List ℕ) (j : ℕ) (masks : List ℕ) : Type 0 where
   pub long : length masks ≡ mostSources
   pub mask :
-      (l s : ℕ) → l < laneCount
+      (l s : ℕ) → l < laneCount → net .inputs ≤ s
       → lane l (getD masks s 0)
       ≡ ltb l (length patterns) && isLive (count s (maskReadsFrom (rightIn net patterns l) (net .outputs) (net .inputs + j) (drop j (net .gates))))
 

@@ -275,7 +275,7 @@ fn output_masks(area: &[u32], by: u64) -> [u64; area::MOST_SOURCES]
     masks
 }
 
-// A gate's mask is passed back to the sources of its pins, in the lanes in which a pin is sensitive.
+// A gate's mask is passed back to the gates that its pins read, in the lanes in which a pin is sensitive. No input is counted, so none gets a mask.
 fn pass_mask(
     masks: &mut [u64; area::MOST_SOURCES],
     area: &[u32],
@@ -288,6 +288,7 @@ fn pass_mask(
     ensures { λ _. ⌜ MaskPassed (now (area .entry)) (now (words .entry)) gate (layout.pinCount (now (area .entry)) gate)
         (now (masks .entry)) (now (masks .exit)) ⌝ }
 {
+    let inputs = area::inputs(area);
     let table = area::table(area, gate);
     let count = area::pin_count(area, gate);
     let pins = signals::pin_words(words, area, gate);
@@ -295,7 +296,9 @@ fn pass_mask(
     let mut i = 0;
     while i < count {
         let source = area::pin(area, gate, i);
-        masks[source] |= signals::sensitive_word(table, count, pins, right, i) & mask;
+        if inputs <= source {
+            masks[source] |= signals::sensitive_word(table, count, pins, right, i) & mask;
+        }
         i += 1;
     }
 }

@@ -1,5 +1,6 @@
 -- `counts::pass_mask` meets its contract: pin by pin. Assumes nothing.
 use Prim.Native.Nat.{_-_, _≤_, _<_}
+use mathlib.Core.Logic.{⊎-elim}
 use mathlib.Core.Path.{_≡_}
 use native.Mathlib.Omega.{arith}
 use borrow.Author.Needs.{needs}
@@ -7,45 +8,48 @@ use Rattle.area.specs.Layout as layout
 use Rattle.area.proofs.Words.{pin-below, gate-inside, few-sources}
 use Rattle.counts.specs.Counts.{MaskPassed}
 use Rattle.counts.proofs.Right.{pins-answer, pins-sensitive}
-use Rattle.counts.proofs.Masks.{passed-none, passed-more}
+use Rattle.counts.proofs.Masks.{passed-none, passed-by, passed-more}
 use Rattle.counts.proofs.pass_mask.Statement.{statement}
 use Rattle.counts.proofs.pass_mask.Tie as tie
 
 abbrev Inv-loop : tie.InvT-loop
-Inv-loop masks₀ area words gate mask table count pins right i₀ masks i = (i ≤ count) × MaskPassed area words gate i masks₀ masks
+Inv-loop masks₀ area words gate mask inputs table count pins right i₀ masks i = (i ≤ count) × MaskPassed area words gate i masks₀ masks
 
 abbrev μ-loop : tie.MeasureT-loop
-μ-loop masks₀ area words gate mask table count pins right i₀ masks i = count - i
+μ-loop masks₀ area words gate mask inputs table count pins right i₀ masks i = count - i
+
+inputs-requires : tie.Need-inputs-requires Inv-loop μ-loop
+inputs-requires c κs = omega (arith, c .before .pre .0 .0 .long)
 
 table-requires : tie.Need-table-requires Inv-loop μ-loop
 table-requires c κs =
-    let s = c .before in
+    let s = c .before .before in
     gate-inside (s .args .area .now) (s .pre .0 .0) (s .args .gate) (s .pre .0 .2)
 
 pin-count-requires : tie.Need-pin-count-requires Inv-loop μ-loop
 pin-count-requires c κs =
-    let s = c .before .before in
+    let s = c .before .before .before in
     gate-inside (s .args .area .now) (s .pre .0 .0) (s .args .gate) (s .pre .0 .2)
 
 pin-words-requires : tie.Need-pin-words-requires Inv-loop μ-loop
 pin-words-requires c κs =
-    let s = c .before .before .before in
+    let s = c .before .before .before .before in
     (s .pre .0 .0, s .pre .0 .2)
 
 gate-word-requires : tie.Need-gate-word-requires Inv-loop μ-loop
 gate-word-requires c κs =
-    let s = c .before .before .before .before in
+    let s = c .before .before .before .before .before in
     (s .pre .0 .0, s .pre .0 .2)
 
 loop-holds : tie.Need-loop-holds Inv-loop μ-loop
 loop-holds c =
-    let s = c .before .before .before .before .before in
+    let s = c .before .before .before .before .before .before in
     let a = s .args in
     (omega arith, passed-none (a .area .now) (a .words .now) (s .pre .0 .0) (a .gate) (s .pre .0 .2) (a .masks .now) (s .pre .1 .0))
 
 pin-requires : tie.Need-pin-requires Inv-loop μ-loop
 pin-requires c κs =
-    let s = c .before .before .before .before .before .before .before in
+    let s = c .before .before .before .before .before .before .before .before in
     let at-pin-count = c .before .before .before .before .pin-count in
     let a = s .args in
     let few = s .pre .0 .0 .gate (a .gate) (s .pre .0 .2) .pin-count in
@@ -53,11 +57,11 @@ pin-requires c κs =
 
 sensitive-word-requires : tie.Need-sensitive-word-requires Inv-loop μ-loop
 sensitive-word-requires c κs =
-    let s = c .before .before .before .before .before .before .before .before in
-    let at-table = c .before .before .before .before .before .before .table in
-    let at-pin-count = c .before .before .before .before .before .pin-count in
-    let at-pin-words = c .before .before .before .before .pin-words in
-    let at-gate-word = c .before .before .before .gate-word in
+    let s = c .before .before .before .before .before .before .before .before .before .before in
+    let at-table = c .before .before .before .before .before .before .before .table in
+    let at-pin-count = c .before .before .before .before .before .before .pin-count in
+    let at-pin-words = c .before .before .before .before .before .pin-words in
+    let at-gate-word = c .before .before .before .before .gate-word in
     let a = s .args in
     let few = s .pre .0 .0 .gate (a .gate) (s .pre .0 .2) .pin-count in
     let known = pins-answer (a .area .now) (a .words .now) (a .gate) _ (s .pre .0 .1 (a .gate) (s .pre .0 .2)) in (
@@ -66,45 +70,58 @@ sensitive-word-requires c κs =
     )
 
 -- a used pin names a source
-module _ (c : tie.After-sensitive-word Inv-loop μ-loop) where
-  source-inside : c .before .pin .result < layout.mostSources
+module _ (c : tie.After-pin Inv-loop μ-loop) where
+  abbrev s : tie.Start Inv-loop μ-loop
+  s = c .before .before .before .before .before .before .before .before .before
+
+  used : c .before .before .loop .i < layout.pinCount (s .args .area .now) (s .args .gate)
+  used = omega (arith, c .before .before .before .before .before .pin-count .ensures, c .before .loop-test .taken)
+
+  source-inside : layout.pin (s .args .area .now) (s .args .gate) (c .before .before .loop .i) < layout.mostSources
   source-inside =
-      let s = c .before .before .before .before .before .before .before .before .before in
       let ws = s .args .area .now in
-      let i = c .before .before .before .loop .i in
-      let used : i < layout.pinCount ws (s .args .gate) = omega (arith, c .before .before .before .before .before .before .pin-count .ensures) in
-      omega (arith, c .before .pin .ensures, pin-below ws (s .pre .0 .0) (s .args .gate) (s .pre .0 .2) i used, few-sources ws (s .pre .0 .0), s .pre .0 .2)
+      let i = c .before .before .loop .i in
+      omega (arith, pin-below ws (s .pre .0 .0) (s .args .gate) (s .pre .0 .2) i used, few-sources ws (s .pre .0 .0), s .pre .0 .2)
 
 mul-masks : tie.Need-mul-masks Inv-loop μ-loop
-mul-masks c = omega (arith, source-inside c)
+mul-masks c = omega (arith, source-inside (c .before .before), c .before .before .pin .ensures)
 
 element-copy-out-masks : tie.Need-element-copy-out-masks Inv-loop μ-loop
-element-copy-out-masks c = omega (arith, source-inside c)
+element-copy-out-masks c = omega (arith, source-inside (c .before .before), c .before .before .pin .ensures)
 
 element-write-masks : tie.Need-element-write-masks Inv-loop μ-loop
-element-write-masks c = omega (arith, source-inside (c .before))
+element-write-masks c =
+    let at-pin = c .before .before .before .pin in
+    omega (arith, source-inside (c .before .before .before), at-pin .ensures)
 
 loop-again : tie.Need-loop-again Inv-loop μ-loop
 loop-again c =
     let s = c .before .before .before .before .before .before .before .before .before .before in
-    let at-table = c .before .before .before .before .before .before .before .before .table in
-    let at-pin-count = c .before .before .before .before .before .before .before .pin-count in
-    let at-pin-words = c .before .before .before .before .before .before .pin-words in
-    let l = c .before .before .before .before .loop in
+    let at-inputs = c .before .before .before .before .before .before .before .before .inputs in
+    let at-table = c .before .before .before .before .before .before .before .table in
+    let at-pin-count = c .before .before .before .before .before .before .pin-count in
+    let at-pin-words = c .before .before .before .before .before .pin-words in
+    let at-pin = c .before .pin in
+    let l = c .before .before .before .loop in
     let a = s .args in
     let ws = a .area .now in
-    let word = c .before .sensitive-word in
-    let used : l .i < layout.pinCount ws (a .gate) = omega (arith, at-pin-count .ensures) in
-    let lanes = rw (at-table .ensures, at-pin-count .ensures, at-pin-words .ensures) at (word .ensures) in
-    let passed = passed-more ws (a .words .now) (s .pre .0 .0) (a .gate) (s .pre .0 .2) (l .i) used (a .masks .now) (l .masks) (word .result) (a .mask)
-    (l .inv .1) (s .pre .1 .1)
-    (omega (arith, pin-below ws (s .pre .0 .0) (a .gate) (s .pre .0 .2) (l .i) used, few-sources ws (s .pre .0 .0), s .pre .0 .2))
-    (pins-sensitive ws (a .words .now) (a .gate) (word .result) (l .i) lanes) in
-    (omega arith, rw (c .before .before .pin .ensures) passed)
+    let here = used (c .before) in
+    let more = passed-more ws (a .words .now) (s .pre .0 .0) (a .gate) (s .pre .0 .2) (l .i) here (a .masks .now) (l .masks) in
+    let by = passed-by ws (a .words .now) (s .pre .0 .0) (a .gate) (s .pre .0 .2) (l .i) here (a .masks .now) (l .masks) (l .inv .1) in (
+      omega arith,
+      ⊎-elim
+          (λ w.
+          let lanes = rw (at-table .ensures, at-pin-count .ensures, at-pin-words .ensures) at (w .1 .ensures) in
+          rw (w .3, at-pin .ensures)
+          (more (w .1 .result) (a .mask) (l .inv .1) (s .pre .1 .1) (source-inside (c .before))
+          (pins-sensitive ws (a .words .now) (a .gate) (w .1 .result) (l .i) lanes)))
+          (λ w. rw (w .1) (by (omega (arith, w .0 .left, at-pin .ensures, at-inputs .ensures))))
+          (c .if1 .came),
+    )
 
 returns : tie.Need-returns Inv-loop μ-loop
 returns c =
-    let s = c .before .before .before .before .before .before .before in
+    let s = c .before .before .before .before .before .before .before .before in
     let at-pin-count = c .before .before .before .before .pin-count in
     let l = c .before .loop in
     let end : l .i ≡ layout.pinCount (s .args .area .now) (s .args .gate) = omega (arith, at-pin-count .ensures) in
@@ -116,6 +133,7 @@ pass-mask-spec =
     (tie.spec
     Inv-loop
     μ-loop
+    inputs-requires
     table-requires
     pin-count-requires
     pin-words-requires
