@@ -16,8 +16,8 @@ use Rattle.lists.proofs.Counts.{count-append, count-below, below-count}
 use Rattle.lists.proofs.Every.{AllFrom, all-head, all-tail}
 use Rattle.lists.proofs.Sums.{sum-first, sum-same, sum-term, sum-some}
 use Rattle.netlist.specs.WellFormed.{pinsBelow, PinsBelow}
-use Rattle.netlist.specs.Live.{isLive, withGate, liveReadsFrom, liveReads, readers, liveAmong}
-use Rattle.netlist.specs.Live.{Live, output-reads, gate-reads, Depends, reads, reads-further}
+use Rattle.netlist.specs.Live.{isLive, withGate, readsFrom, liveReadsFrom, liveReads, readers, liveAmong}
+use Rattle.netlist.specs.Live.{Reached, output-reads, gate-reads, Live, Depends, reads, reads-further}
 
 -- what a gate with so many live readers adds: nothing if it is dead
 abbrev pub ifLive : ℕ → ℕ → ℕ
@@ -72,28 +72,28 @@ pub reads-from : (net : Netlist) (j : ℕ) → j < length (net .gates)
     ≡ withGate (net .inputs + j) (gateAt net j .pins) (liveReadsFrom (net .outputs) (suc (net .inputs + j)) (drop (suc j) (net .gates)))
 reads-from net j l = ap (liveReadsFrom (net .outputs) (net .inputs + j)) (drop-cons (net .gates) j noGate l)
 
--- the reads by the pins of live gates, added up
-reads-sum : (t : ℕ) (outputs : List ℕ) (s : ℕ) (gs : List Gate) → AllFrom noGate pinsBelow s gs
-    → count t (liveReadsFrom outputs s gs)
-    ≡ count t outputs + sumBelow (length gs) (λ j. ifLive (count (s + j) (liveReadsFrom outputs s gs)) (count t (getD gs j noGate .pins)))
-reads-sum t outputs s [] below = sym (add-zero (count t outputs))
-reads-sum t outputs s (g ∷ gs) below =
-    let later = liveReadsFrom outputs (suc s) gs in
-    let all = withGate s (g .pins) later in
-    let F : ℕ → ℕ = λ j. ifLive (count (s + j) all) (count t (getD (g ∷ gs) j noGate .pins)) in
-    let H : ℕ → ℕ = λ j. ifLive (count (suc s + j) later) (count t (getD gs j noGate .pins)) in
-    let pins = all-head noGate pinsBelow s g gs below in
-    let first : F 0 ≡ ifLive (count s later) (count t (g .pins))
-    = ap (λ (k : ℕ). ifLive (count k all) (count t (g .pins))) (add-zero s)
-    ∙ ap (λ (k : ℕ). ifLive k (count t (g .pins))) (count-later s s (g .pins) later pins (le-refl s)) in
+-- the reads by the picked pins of the gates that have a read, added up
+reads-sum : (pick : Gate → List ℕ) (t : ℕ) (outputs : List ℕ) (s : ℕ) (gs : List Gate) → AllFrom noGate (λ r g. Below r (pick g)) s gs
+    → count t (readsFrom pick outputs s gs)
+    ≡ count t outputs + sumBelow (length gs) (λ j. ifLive (count (s + j) (readsFrom pick outputs s gs)) (count t (pick (getD gs j noGate))))
+reads-sum pick t outputs s [] below = sym (add-zero (count t outputs))
+reads-sum pick t outputs s (g ∷ gs) below =
+    let later = readsFrom pick outputs (suc s) gs in
+    let all = withGate s (pick g) later in
+    let F : ℕ → ℕ = λ j. ifLive (count (s + j) all) (count t (pick (getD (g ∷ gs) j noGate))) in
+    let H : ℕ → ℕ = λ j. ifLive (count (suc s + j) later) (count t (pick (getD gs j noGate))) in
+    let pins = all-head noGate (λ r g. Below r (pick g)) s g gs below in
+    let first : F 0 ≡ ifLive (count s later) (count t (pick g))
+    = ap (λ (k : ℕ). ifLive (count k all) (count t (pick g))) (add-zero s)
+    ∙ ap (λ (k : ℕ). ifLive k (count t (pick g))) (count-later s s (pick g) later pins (le-refl s)) in
     let others : sumBelow (length gs) (λ j. F (suc j)) ≡ sumBelow (length gs) H
     = sum-same _ _ (length gs) (λ j l.
-    ap (λ (k : ℕ). ifLive (count k all) (count t (getD gs j noGate .pins))) (omega arith)
-    ∙ ap (λ (k : ℕ). ifLive k (count t (getD gs j noGate .pins))) (count-later (suc s + j) s (g .pins) later pins (omega arith))) in
+    ap (λ (k : ℕ). ifLive (count k all) (count t (pick (getD gs j noGate)))) (omega arith)
+    ∙ ap (λ (k : ℕ). ifLive k (count t (pick (getD gs j noGate)))) (count-later (suc s + j) s (pick g) later pins (omega arith))) in
     omega (
       arith,
-      count-with t s (g .pins) later,
-      reads-sum t outputs (suc s) gs (all-tail noGate pinsBelow s g gs below),
+      count-with t s (pick g) later,
+      reads-sum pick t outputs (suc s) gs (all-tail noGate (λ r g. Below r (pick g)) s g gs below),
       sum-first F (length gs),
     )
 
@@ -105,52 +105,70 @@ pub live-if : (r k : ℕ) → 0 < r → ifLive r k ≡ k
 live-if zero k h = absurd (omega arith)
 live-if (suc r) k h = refl
 
+-- ---- whichever pins are picked, a source is reached exactly if it has a read
+
+module _ (net : Netlist) (pick : Gate → List ℕ) (below : (j : ℕ) → j < length (net .gates) → Below (net .inputs + j) (pick (gateAt net j))) where
+  abbrev pub reads-of : ℕ → ℕ
+  reads-of s = count s (readsFrom pick (net .outputs) (net .inputs) (net .gates))
+
+  pub reads-are : (s : ℕ)
+      → reads-of s ≡ count s (net .outputs) + sumBelow (length (net .gates)) (λ j. ifLive (reads-of (net .inputs + j)) (count s (pick (gateAt net j))))
+  reads-are s = reads-sum pick s (net .outputs) (net .inputs) (net .gates) below
+
+  pub reached-read : {s : ℕ} → Reached net pick s → 0 < reads-of s
+  reached-read {s} (output-reads h) = omega (arith, reads-are s)
+  reached-read {s} (gate-reads j l reached h) =
+      let F : ℕ → ℕ = λ j. ifLive (reads-of (net .inputs + j)) (count s (pick (gateAt net j))) in
+      let here : F j ≡ count s (pick (gateAt net j)) = live-if (reads-of (net .inputs + j)) _ (reached-read reached) in
+      omega (arith, reads-are s, sum-term F (length (net .gates)) j l)
+
+  some-read : (s : ℕ) → 0 < reads-of s
+      → (0 < count s (net .outputs))
+      ⊎ ((j : ℕ) × (j < length (net .gates)) × (0 < reads-of (net .inputs + j)) × (0 < count s (pick (gateAt net j))))
+  some-read s h =
+      let F : ℕ → ℕ = λ j. ifLive (reads-of (net .inputs + j)) (count s (pick (gateAt net j))) in
+      ⊎-elim
+      (λ z.
+      let w = sum-some F (length (net .gates)) (omega (arith, reads-are s)) in
+      let both = if-live (reads-of (net .inputs + w .0)) (count s (pick (gateAt net (w .0)))) (w .2) in
+      inr (w .0, w .1, both .0, both .1))
+      inl
+      (eq-zero-or-pos (count s (net .outputs)))
+
+  -- a reader is a later source, so the way to an output ends
+  reads-fuel : (k s : ℕ) → net .inputs + length (net .gates) ≤ s + k → 0 < reads-of s → Reached net pick s
+  reads-fuel zero s fuel h =
+      ⊎-elim
+      output-reads
+      (λ w. absurd (omega (arith, w .1, below-count (net .inputs + w .0) s (pick (gateAt net (w .0))) (below (w .0) (w .1)) (w .3))))
+      (some-read s h)
+  reads-fuel (suc k) s fuel h =
+      ⊎-elim
+      output-reads
+      (λ w.
+      let later = below-count (net .inputs + w .0) s (pick (gateAt net (w .0))) (below (w .0) (w .1)) (w .3) in
+      gate-reads (w .0) (w .1) (reads-fuel k (net .inputs + w .0) (omega arith) (w .2)) (w .3))
+      (some-read s h)
+
+  pub read-reached : (s : ℕ) → 0 < reads-of s → Reached net pick s
+  read-reached s h = reads-fuel (net .inputs + length (net .gates)) s (omega arith) h
+
 module _ (net : Netlist) (below : PinsBelow net) where
   -- readers are outputs and pins of live gates, each counted
   pub readers-are : (s : ℕ)
       → readers net s
       ≡ count s (net .outputs) + sumBelow (length (net .gates)) (λ j. ifLive (readers net (net .inputs + j)) (count s (gateAt net j .pins)))
   unfolding readers liveReads
-  readers-are s = reads-sum s (net .outputs) (net .inputs) (net .gates) below
+  readers-are = reads-are net (λ g. g .pins) below
 
   -- what is live has a live reader, and what has one is live
   pub live-readers : {s : ℕ} → Live net s → 0 < readers net s
-  live-readers {s} (output-reads h) = omega (arith, readers-are s)
-  live-readers {s} (gate-reads j l live h) =
-      let F : ℕ → ℕ = λ j. ifLive (readers net (net .inputs + j)) (count s (gateAt net j .pins)) in
-      let here : F j ≡ count s (gateAt net j .pins) = live-if (readers net (net .inputs + j)) _ (live-readers live) in
-      omega (arith, readers-are s, sum-term F (length (net .gates)) j l)
-
-  some-reader : (s : ℕ) → 0 < readers net s
-      → (0 < count s (net .outputs))
-      ⊎ ((j : ℕ) × (j < length (net .gates)) × (0 < readers net (net .inputs + j)) × (0 < count s (gateAt net j .pins)))
-  some-reader s h =
-      let F : ℕ → ℕ = λ j. ifLive (readers net (net .inputs + j)) (count s (gateAt net j .pins)) in
-      ⊎-elim
-      (λ z.
-      let w = sum-some F (length (net .gates)) (omega (arith, readers-are s)) in
-      let both = if-live (readers net (net .inputs + w .0)) (count s (gateAt net (w .0) .pins)) (w .2) in
-      inr (w .0, w .1, both .0, both .1))
-      inl
-      (eq-zero-or-pos (count s (net .outputs)))
-
-  -- a reader is a later source, so the way to an output ends
-  readers-fuel : (k s : ℕ) → net .inputs + length (net .gates) ≤ s + k → 0 < readers net s → Live net s
-  readers-fuel zero s fuel h =
-      ⊎-elim
-      output-reads
-      (λ w. absurd (omega (arith, w .1, below-count (net .inputs + w .0) s (gateAt net (w .0) .pins) (below (w .0) (w .1)) (w .3))))
-      (some-reader s h)
-  readers-fuel (suc k) s fuel h =
-      ⊎-elim
-      output-reads
-      (λ w.
-      let later = below-count (net .inputs + w .0) s (gateAt net (w .0) .pins) (below (w .0) (w .1)) (w .3) in
-      gate-reads (w .0) (w .1) (readers-fuel k (net .inputs + w .0) (omega arith) (w .2)) (w .3))
-      (some-reader s h)
+  unfolding readers liveReads
+  live-readers = reached-read net (λ g. g .pins) below
 
   pub readers-live : (s : ℕ) → 0 < readers net s → Live net s
-  readers-live s h = readers-fuel (net .inputs + length (net .gates)) s (omega arith) h
+  unfolding readers liveReads
+  readers-live = read-reached net (λ g. g .pins) below
 
   -- a gate depends only on earlier sources
   pub depends-earlier : {s t : ℕ} → Depends net s t → t < s

@@ -1,6 +1,6 @@
 -- Masks gate by gate: mask reads are live reads, what gate j adds to those of later gates, and that its mask is settled before its turn. Assumes nothing.
 use Prim.Native.Nat.{ℕ, zero, suc, _+_, _≤_, _<_}
-use mathlib.Core.Bool.{Bool, true, false, cond}
+use mathlib.Core.Bool.{Bool, true, false, false≢true, cond}
 use mathlib.Core.List.{List, [], _∷_}
 use mathlib.Core.Path.{_≡_, refl, ap, _∙_}
 use native.Mathlib.Nat.{le-refl}
@@ -14,8 +14,8 @@ use Rattle.lists.proofs.Every.{AllFrom, all-head, all-tail, below-tail}
 use Rattle.netlist.specs.Netlist.{Gate, Netlist, noGate, gateAt, pinValues, rightValues}
 use Rattle.netlist.specs.Live.{isLive, withGate, liveReadsFrom}
 use Rattle.netlist.specs.WellFormed.{pinsBelow, PinsBelow}
-use Rattle.netlist.specs.Seen.{sensitive, pinsWhere, sensitivePins, maskReadsFrom, maskReads, maskSeen}
-use Rattle.netlist.proofs.Live.{ifLive, count-with, count-later}
+use Rattle.netlist.specs.Seen.{sensitive, pinsWhere, sensitivePins, maskReadsFrom, maskReads, maskSeen, MaskMeans}
+use Rattle.netlist.proofs.Live.{ifLive, count-with, count-later, reached-read, read-reached}
 
 -- a test holds of a part of the pins no oftener than of all
 pub part-where : (u : ℕ → Bool) (t : ℕ → Bool) (i : ℕ) (ps : List ℕ) → countWhere u (pinsWhere t i ps) ≤ countWhere u ps
@@ -93,3 +93,24 @@ pub mask-settled : (net : Netlist) → PinsBelow net → (q j : ℕ) → j < len
     ≡ isLive (count (net .inputs + j) (maskReadsFrom (rightValues net q) (net .outputs) (suc (net .inputs + j)) (drop (suc j) (net .gates))))
 unfolding maskSeen maskReads
 mask-settled net below q j l = ap isLive (settled (rightValues net q) (net .outputs) (net .inputs) (net .gates) below j (net .inputs + j) l refl)
+
+-- a mask is 1 exactly where the gate is reached through sensitive pins
+pub mask-means : MaskMeans
+unfolding maskSeen maskReads
+mask-means net below q j =
+    let pick = sensitivePins (rightValues net q) in
+    let picked : (k : ℕ) → k < length (net .gates) → Below (net .inputs + k) (pick (gateAt net k))
+    = λ k l.
+    let g = gateAt net k in
+    part-below (net .inputs + k) (sensitive (g .table) (pinValues (rightValues net q) (g .pins))) 0 (g .pins) (below k l) in (
+      λ e. read-reached net pick picked (net .inputs + j) (some-live _ e),
+      λ reached. is-live _ (reached-read net pick picked reached),
+    )
+  where
+    some-live : (n : ℕ) → isLive n ≡ true → 0 < n
+    some-live zero e = absurd (false≢true e)
+    some-live (suc n) e = omega arith
+
+    is-live : (n : ℕ) → 0 < n → isLive n ≡ true
+    is-live zero h = absurd (omega arith)
+    is-live (suc n) h = refl

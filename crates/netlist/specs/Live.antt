@@ -17,10 +17,15 @@ isLive (suc readers) = true
 abbrev pub withGate : ℕ → List ℕ → List ℕ → List ℕ
 withGate s pins rs = cond (isLive (count s rs)) (pins ++ rs) rs
 
--- the reads by outputs and by the live ones of these gates, the first of which is source s: later gates first, for a gate's readers come after it
+-- the reads by outputs, and by the picked pins of those of these gates that have such a read themselves. The first of them is source s; later gates come
+-- first, for a gate's readers come after it
+abbrev pub readsFrom : (Gate → List ℕ) → List ℕ → ℕ → List Gate → List ℕ
+readsFrom pick outputs s [] = outputs
+readsFrom pick outputs s (g ∷ gs) = withGate s (pick g) (readsFrom pick outputs (suc s) gs)
+
+-- the reads by outputs and by the live ones of these gates: every pin counts
 abbrev pub liveReadsFrom : List ℕ → ℕ → List Gate → List ℕ
-liveReadsFrom outputs s [] = outputs
-liveReadsFrom outputs s (g ∷ gs) = withGate s (g .pins) (liveReadsFrom outputs (suc s) gs)
+liveReadsFrom outputs s gs = readsFrom (λ g. g .pins) outputs s gs
 
 unfoldable pub liveReads : Netlist → List ℕ
 liveReads net = liveReadsFrom (net .outputs) (net .inputs) (net .gates)
@@ -42,10 +47,14 @@ liveGates net = liveAmong (liveReads net) (net .inputs) (length (net .gates))
 unfoldable pub SingleReaders : Netlist → Type 0
 SingleReaders net = (j : ℕ) → j < length (net .gates) → readers net (net .inputs + j) ≤ 1
 
+-- read by an output, or by a picked pin of a gate that is itself reached so
+pub data Reached (net : Netlist) (pick : Gate → List ℕ) : ℕ → Type 0 where
+  output-reads : {s : ℕ} → 0 < count s (net .outputs) → Reached net pick s
+  gate-reads : {s : ℕ} (j : ℕ) → j < length (net .gates) → Reached net pick (net .inputs + j) → 0 < count s (pick (gateAt net j)) → Reached net pick s
+
 -- live, as document 01 has it: read by an output, or by a gate that is live itself
-pub data Live (net : Netlist) : ℕ → Type 0 where
-  output-reads : {s : ℕ} → 0 < count s (net .outputs) → Live net s
-  gate-reads : {s : ℕ} (j : ℕ) → j < length (net .gates) → Live net (net .inputs + j) → 0 < count s (gateAt net j .pins) → Live net s
+abbrev pub Live : Netlist → ℕ → Type 0
+Live net s = Reached net (λ g. g .pins) s
 
 -- dependence, as document 01 has it: on what a gate reads, and on whatever that depends on
 pub data Depends (net : Netlist) : ℕ → ℕ → Type 0 where

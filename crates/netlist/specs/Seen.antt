@@ -3,6 +3,7 @@
 use Prim.Native.Nat.{ℕ, zero, suc, _+_, _<_}
 use mathlib.Core.Bool.{Bool, true, false, cond, not, Bool·beq}
 use mathlib.Core.List.{List, [], _∷_}
+use mathlib.Core.Logic.{_↔_}
 use mathlib.Core.Path.{_≡_}
 use lib.ListN.{length}
 use Rattle.lists.specs.Lists.{count, joined, countWhere}
@@ -11,7 +12,7 @@ use Rattle.netlist.specs.declared.Method.{Method}
 use Rattle.netlist.specs.declared.Method.the-variants.{Flip, Mask}
 use Rattle.netlist.specs.Netlist.{Gate, Netlist, inputValues, pinValues, values, rightValues}
 use Rattle.netlist.specs.Exact.{outputsAgree}
-use Rattle.netlist.specs.Live.{isLive, withGate, readers, SingleReaders}
+use Rattle.netlist.specs.Live.{isLive, readsFrom, Reached, readers, SingleReaders}
 use Rattle.netlist.specs.WellFormed.{PinsBelow}
 
 -- the pattern that has place i alone: of flips, gate i's; of wrong pins, pin i's
@@ -40,11 +41,9 @@ pinsWhere t i (p ∷ ps) = cond (t i) (p ∷ pinsWhere t (suc i) ps) (pinsWhere 
 abbrev pub sensitivePins : List Bool → Gate → List ℕ
 sensitivePins vs g = pinsWhere (sensitive (g .table) (pinValues vs (g .pins))) 0 (g .pins)
 
--- the reads that pass a wrong value on to an output: those by outputs, and those by sensitive pins of a gate that has such a read itself. The first of
--- these gates is source s; later gates come first, for a gate's readers come after it
+-- the reads that pass a wrong value on to an output: those by outputs, and those by sensitive pins of a gate that has such a read itself
 abbrev pub maskReadsFrom : List Bool → List ℕ → ℕ → List Gate → List ℕ
-maskReadsFrom vs outputs s [] = outputs
-maskReadsFrom vs outputs s (g ∷ gs) = withGate s (sensitivePins vs g) (maskReadsFrom vs outputs (suc s) gs)
+maskReadsFrom vs outputs s gs = readsFrom (sensitivePins vs) outputs s gs
 
 unfoldable pub maskReads : Netlist → ℕ → List ℕ
 maskReads net q = maskReadsFrom (rightValues net q) (net .outputs) (net .inputs) (net .gates)
@@ -68,6 +67,12 @@ unfoldable pub seenCounts : Method → Netlist → List ℕ → List ℕ
 seenCounts method net patterns = joined (λ (j : ℕ). seenCount method net patterns j ∷ []) (length (net .gates))
 
 -- ---- what is known of them
+
+-- a mask is 1 exactly where an output reads the gate, or a sensitive pin of a gate whose own mask is 1
+abbrev pub MaskMeans : Type 0
+MaskMeans =
+    (net : Netlist) → PinsBelow net
+    → (q j : ℕ) → (maskSeen net q j ≡ true) ↔ Reached net (sensitivePins (rightValues net q)) (net .inputs + j)
 
 -- without shared gates the methods agree, pattern by pattern
 abbrev pub MethodsAgree : Type 0
