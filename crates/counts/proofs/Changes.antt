@@ -7,6 +7,7 @@ use native.Mathlib.Omega.{arith}
 use lib.Bits.{bitOr, bitXor, or-add-and, and-le-l, and-le-r}
 use lib.ListN.{getD}
 use Rattle.figure.specs.Figure.{answer, invertIf}
+use Rattle.netlist.specs.Seen.{differ}
 use Rattle.area.specs.Layout.{mostPins, gates, table, pinCount, pin, pins}
 use Rattle.area.specs.Rules.{NetSound}
 use Rattle.area.proofs.Words.{pin-at}
@@ -14,7 +15,7 @@ use Rattle.signals.specs.Signals.{lane, pinLanes}
 use Rattle.signals.proofs.Lanes.{lane-xor, lane-zero}
 use Rattle.signals.proofs.Answers.{differs}
 use Rattle.signals.proofs.Held.{pins-lanes}
-use Rattle.counts.specs.Counts.{rightAnswer, changedAnswer, differ}
+use Rattle.counts.specs.Counts.{rightAnswer, changedAnswer}
 use Rattle.counts.proofs.Windows.{no-change}
 
 -- words without a one between them are 0

@@ -15,7 +15,7 @@ use Rattle.lists.proofs.Every.{map-same, below-tail}
 use Rattle.figure.specs.Figure.{answer, invertIf}
 use Rattle.netlist.specs.Netlist.{Gate, Netlist, inputValues, pinValues, values, rightValues}
 use Rattle.netlist.specs.Exact.{outputsAgree}
-use Rattle.netlist.specs.Seen.{alone, flipSeen}
+use Rattle.netlist.specs.Seen.{differ, alone, flipSeen}
 use Rattle.netlist.proofs.Values.{right-input}
 use Rattle.netlist.proofs.Flipped.{flipped-input, flipped-gate, alone-at, alone-other}
 use Rattle.area.specs.Layout.{inputs, gates, table, pin, usedPins, outputWords}
@@ -25,7 +25,7 @@ use Rattle.area.proofs.Net.{gate-at, gate-count, sound-pins}
 use Rattle.area.proofs.Words.{used-below, pin-below, output-below}
 use Rattle.signals.specs.Signals.{laneCount, lane, InEachLane, rightIn, WordsHold}
 use Rattle.signals.proofs.Lanes.{lane-xor, lane-zero}
-use Rattle.counts.specs.Counts.{inList, rightAnswer, changedAnswer, differ, Flipped, someChanged}
+use Rattle.counts.specs.Counts.{inList, rightAnswer, changedAnswer, Flipped, someChanged}
 use Rattle.counts.proofs.Right.{right-answer}
 use Rattle.counts.proofs.Windows.{is-or-not, by-order, same-differ, no-change}
 

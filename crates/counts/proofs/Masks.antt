@@ -1,8 +1,8 @@
 -- Masks passed back from the outputs: one output after another, one pin after another, one gate after another from the last to the first. Assumes nothing.
-use Prim.Native.Nat.{_≤_, ℕ, zero, suc, _+_, _<_}
-use mathlib.Core.Bool.{Bool, true, false, cond, _&&_, _||_}
+use Prim.Native.Nat.{ℕ, zero, suc, _+_, _≤_, _<_}
+use mathlib.Core.Bool.{Bool, true, false, cond, _&&_, _||_, and-true, and-false, or-false}
 use mathlib.Core.List.{List, [], _∷_, _++_, map}
-use mathlib.Core.Path.{subst, _≡_, refl, sym, ap, ap₂, _∙_}
+use mathlib.Core.Path.{_≡_, refl, sym, ap, ap₂, subst, _∙_}
 use native.Mathlib.Nat.{add-zero, zero-add}
 use native.Mathlib.Numerals.{add-one}
 use native.Mathlib.Omega.{arith}
@@ -97,12 +97,14 @@ gathered false false c false = refl
 
 module _ (ws words : List ℕ) (sound : NetSound ws) (j : ℕ) (inside : j < gates ws) where
   pub passed-none : (masks : List ℕ) → length masks ≡ mostSources → MaskPassed ws words j 0 masks masks
-  passed-none masks long = record { long = long; mask = λ l s less gate. sym (none (lane l (getD masks s 0)) (lane l (getD masks (inputs ws + j) 0))) }
-    where
-      none : (a m : Bool) → a || (m && false) ≡ a
-      none true m = refl
-      none false true = refl
-      none false false = refl
+  passed-none masks long =
+      record {
+        long = long;
+        mask =
+            λ l s less gate.
+            let was = lane l (getD masks s 0) in
+            sym (ap (λ (b : Bool). was || b) (and-false (lane l (getD masks (inputs ws + j) 0))) ∙ or-false was);
+      }
 
   -- a mask without a lane passes nothing on
   pub passed-zero : (masks : List ℕ) (i : ℕ) → length masks ≡ mostSources → getD masks (inputs ws + j) 0 ≡ 0 → MaskPassed ws words j i masks masks
@@ -114,10 +116,6 @@ module _ (ws words : List ℕ) (sound : NetSound ws) (j : ℕ) (inside : j < gat
             sym (ap (λ (m : Bool). lane l (getD masks s 0) || (m && isLive (count s (sensitiveIn ws words j l i)))) (ap (lane l) zero-mask ∙ lane-zero l)
             ∙ or-false (lane l (getD masks s 0)));
       }
-    where
-      or-false : (a : Bool) → a || false ≡ a
-      or-false true = refl
-      or-false false = refl
 
   module _ (i : ℕ) (used : i < pinCount ws j) where
     next-sensitive : (l : ℕ) → sensitiveIn ws words j l (i + 1)
@@ -209,15 +207,7 @@ module _ (ws patterns : List ℕ) where
 
       chosen : (l : ℕ) → l < laneCount → (b : Bool) → lane l (cond b by 0) ≡ ltb l (length patterns) && b
       chosen l less true = lanes l less ∙ sym (and-true (ltb l (length patterns)))
-        where
-          and-true : (b : Bool) → b && true ≡ b
-          and-true true = refl
-          and-true false = refl
       chosen l less false = lane-zero l ∙ sym (and-false (ltb l (length patterns)))
-        where
-          and-false : (b : Bool) → b && false ≡ false
-          and-false true = refl
-          and-false false = refl
 
   module _ (words : List ℕ) (sound : NetSound ws) (held : WordsHold (inputs ws + gates ws) (rightIn (netOf ws [] []) patterns) words)
       (j : ℕ) (inside : j < gates ws) (masks : List ℕ) (h : MasksFrom (netOf ws [] []) patterns (suc j) masks) where

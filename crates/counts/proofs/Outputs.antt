@@ -1,8 +1,8 @@
 -- The outputs gone through one by one: the lanes in which some of them changes, and the masks that they give. Assumes nothing.
 use Prim.Native.Nat.{ℕ, _+_, _≤_, _<_}
-use mathlib.Core.Bool.{Bool, true, false, _||_}
+use mathlib.Core.Bool.{Bool, _||_, or-false, or-assoc}
 use mathlib.Core.List.{List, [], _∷_, _++_}
-use mathlib.Core.Path.{_≡_, refl, sym, ap, ap₂, _∙_}
+use mathlib.Core.Path.{_≡_, sym, ap, ap₂, _∙_}
 use native.Mathlib.Numerals.{add-one}
 use native.Mathlib.Omega.{arith}
 use lib.Bits.{bitOr}
@@ -16,16 +16,8 @@ use Rattle.signals.proofs.Lanes.{lane-or}
 use Rattle.counts.specs.Counts.{someChanged}
 
 -- the k-th of them one more
-or-right : (x : Bool) → x || false ≡ x
-or-right true = refl
-or-right false = refl
-
-or-assoc : (x y z : Bool) → (x || y) || z ≡ x || (y || z)
-or-assoc true y z = refl
-or-assoc false y z = refl
-
 some-append : (changed os : List ℕ) (o l : ℕ) → someChanged changed (os ++ (o ∷ [])) l ≡ someChanged changed os l || lane l (getD changed o 0)
-some-append changed [] o l = or-right (lane l (getD changed o 0))
+some-append changed [] o l = or-false (lane l (getD changed o 0))
 some-append changed (p ∷ os) o l =
     ap (λ (b : Bool). lane l (getD changed p 0) || b) (some-append changed os o l)
     ∙ sym (or-assoc (lane l (getD changed p 0)) (someChanged changed os l) (lane l (getD changed o 0)))

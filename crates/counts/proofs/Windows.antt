@@ -14,19 +14,18 @@ use lib.ListN.{length, getD, set, length-set}
 use lib.Seq.{getD-set-same, getD-set-other}
 use Rattle.lists.proofs.Every.{map-same}
 use Rattle.figure.specs.Figure.{answer}
+use Rattle.netlist.specs.Seen.{differ}
+use Rattle.netlist.proofs.Wrong.{differ-self}
 use Rattle.area.specs.Layout.{inputs, gates, table, pinCount, pin, usedPins}
 use Rattle.area.specs.Rules.{NetSound}
 use Rattle.area.proofs.Words.{used-below, used-count, used-pin, few-sources}
 use Rattle.signals.specs.Signals.{laneCount, lane, InEachLane}
 use Rattle.signals.proofs.Lanes.{lane-zero}
-use Rattle.counts.specs.Counts.{Reads, rightAnswer, changedAnswer, differ, Unchanged, Settled, Flipped, Following}
+use Rattle.counts.specs.Counts.{Reads, rightAnswer, changedAnswer, Unchanged, Settled, Flipped, Following}
 
 -- values that are equal do not differ
 pub same-differ : (x y : Bool) → x ≡ y → differ x y ≡ false
-same-differ true true e = refl
-same-differ true false e = e
-same-differ false true e = sym e
-same-differ false false e = refl
+same-differ x y e = ap (λ (z : Bool). differ z y) e ∙ differ-self y
 
 -- equal or not
 pub is-or-not : {A : Type 0} (s t : ℕ) → (s ≡ t → A) → (s ≢ t → A) → A

@@ -1,6 +1,6 @@
 -- What the steps of counting mean: lanes of listed patterns, readers of a source, lanes in which a source changes, masks, counts with a block added.
 use Prim.Native.Nat.{ℕ, _+_, _≤_, _<_}
-use mathlib.Core.Bool.{Bool, false, cond, not, _&&_, _||_, Bool·beq}
+use mathlib.Core.Bool.{Bool, false, cond, _&&_, _||_}
 use mathlib.Core.List.{List, [], _∷_, map}
 use mathlib.Core.Logic.{_≢_}
 use mathlib.Core.Path.{_≡_}
@@ -12,7 +12,7 @@ use Rattle.figure.specs.Figure.{answer}
 use Rattle.netlist.specs.declared.Method.{Method}
 use Rattle.netlist.specs.Netlist.{Netlist}
 use Rattle.netlist.specs.Live.{isLive}
-use Rattle.netlist.specs.Seen.{sensitive, pinsWhere, maskReadsFrom, seenCount}
+use Rattle.netlist.specs.Seen.{differ, sensitive, pinsWhere, maskReadsFrom, seenCount}
 use Rattle.area.specs.Layout.{mostSources, mostListed, inputs, gates, table, pinCount, pin, usedPins, outputWords}
 use Rattle.signals.specs.Signals.{laneCount, lane, InEachLane, rightIn}
 
@@ -50,9 +50,6 @@ rightAnswer ws words j l = answer (table ws j) (map (λ (p : ℕ). lane l (getD 
 
 abbrev pub changedAnswer : List ℕ → List ℕ → List ℕ → ℕ → ℕ → Bool
 changedAnswer ws words changed j l = answer (table ws j) (map (λ (p : ℕ). lane l (bitXor (getD words p 0) (getD changed p 0))) (usedPins ws j))
-
-abbrev pub differ : Bool → Bool → Bool
-differ x y = not (Bool·beq x y)
 
 -- no source changes
 pub record Unchanged (changed : List ℕ) : Type 0 where

@@ -6,13 +6,13 @@ ghost use Prim.Native.Nat.{ℕ, _+_, _<_, _≤_, min, max};
 ghost use lib.Count.{ones};
 ghost use lib.Dec.{eqb, ltb};
 ghost use lib.ListN.{length, getD, set, drop};
-ghost use Rattle.netlist.specs.Seen.{seenCounts};
+ghost use Rattle.netlist.specs.Seen.{differ, seenCounts};
 ghost use Rattle.netlist.specs.declared.Method.the-variants.{Flip, Mask};
 ghost use Rattle.area.specs.Layout as layout;
 ghost use Rattle.area.specs.Rules.{NetSound};
 ghost use Rattle.area.specs.Net.{netOf};
 ghost use Rattle.signals.specs.Signals.{laneCount, InEachLane};
-ghost use Rattle.counts.specs.Counts.{Entered, Reads, rightAnswer, changedAnswer, differ, Unchanged, Worked};
+ghost use Rattle.counts.specs.Counts.{Entered, Reads, rightAnswer, changedAnswer, Unchanged, Worked};
 ghost use Rattle.counts.specs.Counts.{Flipped, Following, someChanged, SeenIn, OutputMasks, MaskPassed, Zeroed, CountsReady, CountsAdded};
 use netlist::Method;
 

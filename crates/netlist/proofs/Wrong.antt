@@ -15,15 +15,11 @@ use Rattle.figure.specs.Figure.{bitOf, answer, invertIf, inverted}
 use Rattle.netlist.specs.Netlist.{Gate, pinValues}
 use Rattle.netlist.specs.Exact.{outputsAgree}
 use Rattle.netlist.specs.Live.{isLive, withGate}
-use Rattle.netlist.specs.Seen.{alone, sensitive, pinsWhere, sensitivePins}
+use Rattle.netlist.specs.Seen.{alone, differ, sensitive, pinsWhere, sensitivePins}
 use Rattle.netlist.proofs.Live.{ifLive, reads-with}
 use Rattle.netlist.proofs.Masks.{part-where}
 
 -- ---- wrong values
-
--- whether w is wrong where v is right
-abbrev pub differ : Bool → Bool → Bool
-differ w v = not (Bool·beq w v)
 
 invert-back : (w v : Bool) → w ≡ invertIf (differ w v) v
 invert-back true true = refl
@@ -31,7 +27,7 @@ invert-back true false = refl
 invert-back false true = refl
 invert-back false false = refl
 
-differ-self : (v : Bool) → differ v v ≡ false
+pub differ-self : (v : Bool) → differ v v ≡ false
 differ-self true = refl
 differ-self false = refl
 

@@ -28,9 +28,13 @@ flipSeen net q j = not (outputsAgree (net .outputs) (values (net .gates) (alone 
 
 -- ---- by masks
 
+-- two values differ
+abbrev pub differ : Bool → Bool → Bool
+differ w v = not (Bool·beq w v)
+
 -- a gate whose pins have these values answers otherwise when pin i alone is inverted
 unfoldable pub sensitive : ℕ → List Bool → ℕ → Bool
-sensitive table vs i = not (Bool·beq (answer table (inverted vs (alone i))) (answer table vs))
+sensitive table vs i = differ (answer table (inverted vs (alone i))) (answer table vs)
 
 -- of the pins from pin i on, those for which t holds
 abbrev pub pinsWhere : (ℕ → Bool) → ℕ → List ℕ → List ℕ
