@@ -7,7 +7,7 @@ ghost use mathlib.Core.Path.{_≡_};
 ghost use mathlib.Core.List.{[], map};
 ghost use Prim.Native.Nat.{ℕ, _+_, _*_, _/_, _%_, _^_, _<_, _≤_};
 ghost use lib.ListN.{getD, take};
-ghost use Rattle.rounding.specs.Rounding.{unitsInOne};
+ghost use Rattle.rounding.specs.Rounding.{unitsInOne, blend};
 ghost use Rattle.figure.specs.Figure.{failureOf, foldStep, gateStep, outputStep};
 ghost use Rattle.figure.specs.Steps.{firstPins, room, spreadPin, differs, pinsWord};
 
@@ -46,25 +46,25 @@ fn answer_at(table: u32, index: u32) -> u32
 }
 
 // Step 1 of the figures at one index: U where the table's answer there is not the right one.
-fn difference(table: u32, right: u32, index: u32) -> u64
+fn difference(table: u32, right: u32, index: u32) -> u32
     requires { ⌜ index ≤ 15 ⌝ }
     ensures { λ r. ⌜ r ≡ differs unitsInOne table right index ⌝ }
 {
     if answer_at(table, index) == right {
         0
     } else {
-        rounding::UNITS_IN_ONE
+        rounding::UNITS_IN_ONE as u32
     }
 }
 
 // Step 1 at each of the first `used` indices.
-fn start_values(table: u32, right: u32, indices: [u32; 16], used: usize) -> [u64; 16]
+fn start_values(table: u32, right: u32, indices: [u32; 16], used: usize) -> [u32; 16]
     requires { ⌜ used ≤ 16 ⌝ }
     requires { ⌜ ((i : ℕ) → i < used → getD indices i 0 ≤ 15) ⌝ }
     ensures { λ r. ⌜ take used r ≡ map (differs unitsInOne table right) (take used indices) ⌝ }
     ensures { λ r. ⌜ ((i : ℕ) → i < used → getD r i 0 ≤ unitsInOne) ⌝ }
 {
-    let mut values = [0u64; 16];
+    let mut values = [0u32; 16];
     let mut i = 0;
     while i < used {
         values[i] = difference(table, right, indices[i]);
@@ -73,19 +73,29 @@ fn start_values(table: u32, right: u32, indices: [u32; 16], used: usize) -> [u64
     values
 }
 
+// A pair of the fold, (pin right, pin wrong), made one value: their mean. No value passes U, so 32 bits hold it; 64 are for the products.
+fn fold_pair(right: u32, wrong: u32, failure: u32) -> u32
+    requires { ⌜ right ≤ unitsInOne ⌝ }
+    requires { ⌜ wrong ≤ unitsInOne ⌝ }
+    requires { ⌜ failure ≤ unitsInOne ⌝ }
+    ensures { λ r. ⌜ r ≡ blend unitsInOne right wrong failure ⌝ }
+{
+    rounding::blended(right as u64, wrong as u64, failure as u64) as u32
+}
+
 // Step 2 of the figures for one pin: of the first 2 × half values each pair (pin right, pin wrong) becomes one, and half as many are
 // in use.
-fn fold_step(values: [u64; 16], half: usize, words: &[u32; 4], pin: usize) -> [u64; 16]
+fn fold_step(values: [u32; 16], half: usize, words: &[u32; 4], pin: usize) -> [u32; 16]
     requires { ⌜ (half ≤ 8) × (pin < 4) × (failureOf (getD (now words) pin 0) ≤ unitsInOne) ⌝ }
     requires { ⌜ ((i : ℕ) → i < 2 * half → getD values i 0 ≤ unitsInOne) ⌝ }
     ensures { λ r. ⌜ take half r ≡ foldStep unitsInOne (failureOf (getD (now (words .entry)) pin 0)) (take (2 * half) values) ⌝ }
     ensures { λ r. ⌜ ((i : ℕ) → i < half → getD r i 0 ≤ unitsInOne) ⌝ }
 {
-    let failure = (words[pin] / 2) as u64;
+    let failure = words[pin] / 2;
     let mut values = values;
     let mut i = 0;
     while i < half {
-        values[i] = rounding::blended(values[2 * i], values[2 * i + 1], failure);
+        values[i] = fold_pair(values[2 * i], values[2 * i + 1], failure);
         i += 1;
     }
     values
@@ -110,11 +120,11 @@ pub fn output_step(reliability: u64, failure: u64) -> u64
 }
 
 // A gate's word, 2 × failure + right value, from the last value of the fold, the flip and the right answer.
-fn word_of(last: u64, flip: u32, right: u32) -> u32
+fn word_of(last: u32, flip: u32, right: u32) -> u32
     requires { ⌜ (last ≤ unitsInOne) × (flip ≤ unitsInOne) × (right ≤ 1) ⌝ }
     ensures { λ r. ⌜ r ≡ 2 * gateStep unitsInOne last flip + right ⌝ }
 {
-    let failure = gate_step(last, flip as u64);
+    let failure = gate_step(last as u64, flip as u64);
     2 * (failure as u32) + right
 }
 
