@@ -2,60 +2,9 @@
    counts_by_flip and counts_by_mask on forests of 2-, 3- and 4-pin gates, a chain, and a forest whose gates are mostly dead; 12 inputs, 1,024 gates,
    and 4,096 random patterns for the counts. Build and run: speed/run-calls.
    The C steps make the same checks as the library: refusals 1 to 9 and 13 at opening, 13 and 14 on every other call, 15 to 17 before counting. */
-#include <math.h>
-#include <stdint.h>
-#include <stdio.h>
-#include <stdlib.h>
-#include <string.h>
-#include <time.h>
-
-#include "../include/bench.h"
+#include "netlists.h"
 
 #define U 1073741824ull
-#define N 12
-#define G 1024
-#define WORDS (8 + 8 * G + 64)
-
-static uint64_t seed = 88172645463325252ull;
-static uint64_t next(void) { seed ^= seed << 13; seed ^= seed >> 7; seed ^= seed << 17; return seed; }
-
-/* ---- images */
-
-static uint8_t image[32768];
-static size_t image_len;
-
-static void put16(size_t at, unsigned x) { image[at] = x & 255; image[at + 1] = x >> 8; }
-static void put32(size_t at, unsigned x) { put16(at, x & 65535); put16(at + 2, x >> 16); }
-
-/* pins: pins a gate; chain: every gate reads the one before; dead: only the last 32 gates' trees are read by outputs */
-static void make(unsigned pins, int chain, int dead) {
-    static unsigned unread[G];
-    unsigned waiting = 0;
-    memset(image, 0, sizeof image);
-    for (unsigned j = 0; j < G; j++) {
-        size_t at = 20 * j;
-        double chance = 0.01 + (double)(next() % 1000) / 20000.0;
-        image[at] = pins;
-        image[at + 1] = 1;
-        put16(at + 2, (unsigned)(next() & ((1ull << (1u << pins)) - 1)));
-        for (unsigned i = 0; i < pins; i++) {
-            unsigned source = (unsigned)(next() % N);
-            if (chain ? i == 0 && j > 0 : waiting > 0 && (waiting > 60 || next() % pins == 0)) {
-                unsigned k = (unsigned)(next() % waiting);
-                source = N + (chain ? j - 1 : unread[k]);
-                unread[k] = unread[--waiting];
-            }
-            put16(at + 4 + 2 * i, source);
-        }
-        memcpy(image + at + 12, &chance, 8);
-        unread[waiting++] = j;
-    }
-    unsigned outputs = chain ? 1 : dead ? 1 : waiting;
-    for (unsigned k = 0; k < outputs; k++) put16(20 * G + 2 * k, N + (chain || dead ? G - 1 : unread[k]));
-    size_t t = 20 * G + 2 * outputs;
-    put16(t, N), put16(t + 2, G), put16(t + 4, outputs), put16(t + 6, 1), put32(t + 8, (unsigned)t), put32(t + 12, (unsigned)t + 16);
-    image_len = t + 16;
-}
 
 /* ---- the same steps in C */
 
@@ -362,16 +311,6 @@ __attribute__((noinline)) static uint64_t c_by_mask(const uint32_t *a, size_t le
     return 0;
 }
 
-/* ---- timing: the best of many short runs, taken in turn */
-
-static double now_ns(void) { struct timespec t; clock_gettime(CLOCK_MONOTONIC, &t); return t.tv_sec * 1e9 + t.tv_nsec; }
-#define TIME(best, runs, body) do { \
-        double t0 = now_ns(); \
-        for (int r_ = 0; r_ < (runs); r_++) { body; } \
-        double t_ = (now_ns() - t0) / (runs); \
-        if (t_ < best) best = t_; \
-    } while (0)
-
 static uint32_t mine[WORDS], theirs[WORDS], weights[4096], listed[4096], my_counts[G], their_counts[G];
 
 static void same(const char *what) {
@@ -402,28 +341,27 @@ static void time_counts(double best[4]) {
     }
 }
 
-static void print_counts(const char *const names[5], double best[5][4]) {
+static void print_counts(double best[KINDS][4]) {
     printf("\n%-12s %10s %10s %6s | %10s %10s %6s\n", "netlist", "flip ms", "C", "ratio", "mask ms", "C", "ratio");
-    for (int kind = 0; kind < 5; kind++) {
+    for (int kind = 0; kind < KINDS; kind++) {
         const double *b = best[kind];
-        printf("%-12s %10.1f %10.1f %6.2f | %10.2f %10.2f %6.2f\n", names[kind], b[0] / 1e6, b[1] / 1e6, b[0] / b[1], b[2] / 1e6, b[3] / 1e6, b[2] / b[3]);
+        printf("%-12s %10.1f %10.1f %6.2f | %10.2f %10.2f %6.2f\n", kinds[kind], b[0] / 1e6, b[1] / 1e6, b[0] / b[1], b[2] / 1e6, b[3] / 1e6, b[2] / b[3]);
     }
 }
 
 int main(void) {
-    double counted[5][4];
-    const char *names[5] = {"forest2", "forest3", "forest4", "chain", "mostly dead"};
+    double counted[KINDS][4];
     uint64_t kept = seed;
     for (int q = 0; q < 4096; q++) weights[q] = 1, listed[q] = next() % 4096;
     seed = kept; /* so that the patterns do not change the netlists */
     printf("%-12s %10s %10s %6s | %10s %10s %6s | %10s %10s %6s | %9s %9s %9s %6s\n", "netlist", "open us", "C", "ratio", "toggle us", "C", "ratio",
            "set us", "C", "ratio", "avg ms", "C all", "C Gray", "ratio");
-    for (int kind = 0; kind < 5; kind++) {
-        make(kind < 3 ? 2 + kind : kind == 3 ? 2 : 3, kind == 3, kind == 4);
+    for (int kind = 0; kind < KINDS; kind++) {
+        make_kind(kind);
         memset(mine, 0, sizeof mine), memset(theirs, 0, sizeof theirs);
         uint32_t live = 0, live2 = 0, units = 0, units2 = 0;
         uint64_t no = bench_open(mine, WORDS, image, image_len, &live);
-        if (no) { printf("%s: refused %llu %llu\n", names[kind], (unsigned long long)(no >> 32), (unsigned long long)(no & 0xffffffff)); return 1; }
+        if (no) { printf("%s: refused %llu %llu\n", kinds[kind], (unsigned long long)(no >> 32), (unsigned long long)(no & 0xffffffff)); return 1; }
         c_open(theirs, WORDS, image, image_len, &live2);
         same("open");
         double o1 = 1e18, o2 = 1e18, t1 = 1e18, t2 = 1e18, s1 = 1e18, s2 = 1e18, a1 = 1e18, a2 = 1e18, a3 = 1e18;
@@ -449,10 +387,10 @@ int main(void) {
             same("average");
         }
         double c = a2 < a3 ? a2 : a3;
-        printf("%-12s %10.1f %10.1f %6.2f | %10.2f %10.2f %6.2f | %10.2f %10.2f %6.2f | %9.1f %9.1f %9.1f %6.2f\n", names[kind], o1 / 1e3, o2 / 1e3,
+        printf("%-12s %10.1f %10.1f %6.2f | %10.2f %10.2f %6.2f | %10.2f %10.2f %6.2f | %9.1f %9.1f %9.1f %6.2f\n", kinds[kind], o1 / 1e3, o2 / 1e3,
                o1 / o2, t1 / 1e3, t2 / 1e3, t1 / t2, s1 / 1e3, s2 / 1e3, s1 / s2, a1 / 1e6, a2 / 1e6, a3 / 1e6, a1 / c);
         time_counts(counted[kind]);
     }
-    print_counts(names, counted);
+    print_counts(counted);
     return 0;
 }

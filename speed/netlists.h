@@ -1,0 +1,67 @@
+/* What the timing programs share: the netlists that they run on, as images, and the clock. */
+#include <stdint.h>
+#include <stdio.h>
+#include <stdlib.h>
+#include <string.h>
+#include <time.h>
+
+#include "../include/bench.h"
+
+#define N 12
+#define G 1024
+#define WORDS (8 + 8 * G + 64)
+
+static uint64_t seed = 88172645463325252ull;
+static uint64_t next(void) { seed ^= seed << 13; seed ^= seed >> 7; seed ^= seed << 17; return seed; }
+
+/* ---- images */
+
+static uint8_t image[32768];
+static size_t image_len;
+
+static void put16(size_t at, unsigned x) { image[at] = x & 255; image[at + 1] = x >> 8; }
+static void put32(size_t at, unsigned x) { put16(at, x & 65535); put16(at + 2, x >> 16); }
+
+/* pins: pins a gate; chain: every gate reads the one before; dead: one output, which reads the last gate */
+static void make(unsigned pins, int chain, int dead) {
+    static unsigned unread[G];
+    unsigned waiting = 0;
+    memset(image, 0, sizeof image);
+    for (unsigned j = 0; j < G; j++) {
+        size_t at = 20 * j;
+        double chance = 0.01 + (double)(next() % 1000) / 20000.0;
+        image[at] = pins;
+        image[at + 1] = 1;
+        put16(at + 2, (unsigned)(next() & ((1ull << (1u << pins)) - 1)));
+        for (unsigned i = 0; i < pins; i++) {
+            unsigned source = (unsigned)(next() % N);
+            if (chain ? i == 0 && j > 0 : waiting > 0 && (waiting > 60 || next() % pins == 0)) {
+                unsigned k = (unsigned)(next() % waiting);
+                source = N + (chain ? j - 1 : unread[k]);
+                unread[k] = unread[--waiting];
+            }
+            put16(at + 4 + 2 * i, source);
+        }
+        memcpy(image + at + 12, &chance, 8);
+        unread[waiting++] = j;
+    }
+    unsigned outputs = chain ? 1 : dead ? 1 : waiting;
+    for (unsigned k = 0; k < outputs; k++) put16(20 * G + 2 * k, N + (chain || dead ? G - 1 : unread[k]));
+    size_t t = 20 * G + 2 * outputs;
+    put16(t, N), put16(t + 2, G), put16(t + 4, outputs), put16(t + 6, 1), put32(t + 8, (unsigned)t), put32(t + 12, (unsigned)t + 16);
+    image_len = t + 16;
+}
+
+#define KINDS 5
+static const char *const kinds[KINDS] = {"forest2", "forest3", "forest4", "chain", "mostly dead"};
+static void make_kind(int kind) { make(kind < 3 ? 2 + kind : kind == 3 ? 2 : 3, kind == 3, kind == 4); }
+
+/* ---- timing: the best of many short runs, taken in turn */
+
+static double now_ns(void) { struct timespec t; clock_gettime(CLOCK_MONOTONIC, &t); return t.tv_sec * 1e9 + t.tv_nsec; }
+#define TIME(best, runs, body) do { \
+        double t0 = now_ns(); \
+        for (int r_ = 0; r_ < (runs); r_++) { body; } \
+        double t_ = (now_ns() - t0) / (runs); \
+        if (t_ < best) best = t_; \
+    } while (0)
