@@ -30,7 +30,8 @@
  * UNITS
  *
  * Failures and reliabilities are whole numbers of units. One is BENCH_ONE units, 2^30: a figure of c
- * units stands for c / 2^30.
+ * units stands for c / 2^30. Whatever is rounded goes to the nearest unit, and a half to the even one,
+ * whatever rounding mode the caller has set for floats.
  *
  *
  * THE WORK AREA
@@ -124,8 +125,8 @@
 extern "C" {
 #endif
 
-/* Raised with every change to a function, a number or a layout in this file. */
-#define BENCH_VERSION 2
+/* Raised with every change to a function, a number, a layout or a figure that this file speaks of. */
+#define BENCH_VERSION 3
 
 #define BENCH_ONE UINT32_C(1073741824)
 #define BENCH_INPUTS_MAX 12
@@ -195,7 +196,7 @@ uint64_t bench_toggle_input(uint32_t *area, size_t area_len, uint32_t input);
  *                         another, the latching window; the chance is their exact product
  *
  * Each of these floats is finite and from 0 to 1; minus zero is taken for zero. The chance is rounded
- * to units once, to the nearest, a half upwards.
+ * to units once, to the nearest, a half to the even one.
  *
  * Done: the gate has the new flip; it and the gates that depend on it are worked out again, and so is
  * the reliability. The words of every other gate are as before.
@@ -228,8 +229,8 @@ uint64_t bench_read_gate(const uint32_t *area, size_t area_len, uint32_t gate, u
  * with n inputs there are 2^n of them.
  *
  * Done: *units is the sum of weight times reliability, divided by the sum of the weights, to the
- * nearest unit, a half upwards. The pattern is as before, and every figure in the area is what working
- * it out afresh for that pattern gives.
+ * nearest unit, a half to the even one. The pattern is as before, and every figure in the area is what
+ * working it out afresh for that pattern gives.
  *
  * Refused, in this order: 13 and 14 of the area; 12 with place 0 where weights_len is not 2^n; 12 with
  * the place of the first weight above 1048575; 12 with place 0 where all weights are zero.

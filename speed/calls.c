@@ -8,7 +8,16 @@
 
 /* ---- the same steps in C */
 
-static inline uint64_t blend(uint64_t r, uint64_t w, uint64_t f) { return (r * (U - f) + w * f + U / 2) / U; }
+/* a half goes to the even number */
+static inline uint64_t blend(uint64_t r, uint64_t w, uint64_t f) {
+    uint64_t sum = r * (U - f) + w * f;
+    return (sum + (U / 2 - 1) + (sum / U & 1)) / U;
+}
+
+static inline uint32_t average_of(uint64_t sum, uint64_t total) { return (uint32_t)((2 * sum + (total - 1) + (sum / total & 1)) / (2 * total)); }
+
+/* the first step's values are 0 or U, so its means are exact */
+#define FIRST(n, f) for (int k = 0; k < (n); k++) v[k] = v[2 * k] / U * (U - f) + v[2 * k + 1] / U * f
 #define STEP(n, f) for (int k = 0; k < (n); k++) v[k] = blend(v[2 * k], v[2 * k + 1], f)
 #define START(n) for (uint32_t e = 0; e < (n); e++) v[e] = (table >> (index ^ e) & 1) != right ? U : 0
 
@@ -21,10 +30,10 @@ static inline void c_gate(uint32_t *a, uint32_t j) {
     uint64_t v[16], f0 = w[0] >> 1, f1 = w[1] >> 1, f2 = w[2] >> 1, f3 = w[3] >> 1;
     switch (g[0]) {
     case 0: v[0] = 0; break;
-    case 1: START(2); STEP(1, f0); break;
-    case 2: START(4); STEP(2, f0); STEP(1, f1); break;
-    case 3: START(8); STEP(4, f0); STEP(2, f1); STEP(1, f2); break;
-    default: START(16); STEP(8, f0); STEP(4, f1); STEP(2, f2); STEP(1, f3); break;
+    case 1: START(2); FIRST(1, f0); break;
+    case 2: START(4); FIRST(2, f0); STEP(1, f1); break;
+    case 3: START(8); FIRST(4, f0); STEP(2, f1); STEP(1, f2); break;
+    default: START(16); FIRST(8, f0); STEP(4, f1); STEP(2, f2); STEP(1, f3); break;
     }
     g[7] = 2 * (uint32_t)blend(v[0], U - v[0], g[6]) + right;
 }
@@ -90,7 +99,7 @@ static int c_units(uint8_t kind, uint64_t field, uint32_t *units) {
         x = (double)p * (double)w;
     } else return 0;
     if (!(x >= 0 && x <= 1)) return 0;
-    *units = (uint32_t)(((uint64_t)(x * 2147483648.0) + 1) / 2);
+    *units = (uint32_t)((uint64_t)(x * 1073741824.0 + 4503599627370496.0) - 4503599627370496);
     return 1;
 }
 
@@ -161,7 +170,7 @@ __attribute__((noinline)) static uint32_t c_average_all(uint32_t *a, size_t len,
     a[3] = own;
     for (uint32_t j = 0; j < a[1]; j++) c_gate(a, j);
     a[4] = c_reliability(a);
-    return (uint32_t)((2 * sum + total) / (2 * total));
+    return average_of(sum, total);
 }
 
 /* Gray-code walk over the dependents of the input that changes */
@@ -191,7 +200,7 @@ __attribute__((noinline)) static uint32_t c_average_gray(uint32_t *a, size_t len
     a[3] = own;
     for (uint32_t j = 0; j < a[1]; j++) c_gate(a, j);
     a[4] = c_reliability(a);
-    return (uint32_t)((2 * sum + total) / (2 * total));
+    return average_of(sum, total);
 }
 
 /* ---- counts: 64 patterns in a word */

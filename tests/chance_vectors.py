@@ -73,8 +73,7 @@ def vector(kind, field):
     exact = chance(kind, field)
     units = 0
     if exact is not None:
-        scaled = exact * UNITS_IN_ONE
-        units = (2 * scaled.numerator + scaled.denominator) // (2 * scaled.denominator)
+        units = round(exact * UNITS_IN_ONE)  # a half goes to the even whole number
     return bytes([kind]) + field + bytes([exact is not None]) + units.to_bytes(4, "little")
 
 
@@ -97,12 +96,13 @@ MINUS64, MINUS32 = 1 << 63, 1 << 31
 
 def fixed_fields():
     """The sheets of document 01 and the edges of both forms."""
-    for number in [Fraction(1, 2), Fraction(1), Fraction(1, 2**31), Fraction(1, 2**32), Fraction(3, 2**31), Fraction(1, 4), Fraction(3, 4)]:
+    for number in [Fraction(1, 2), Fraction(1), Fraction(1, 2**31), Fraction(1, 2**32), Fraction(3, 2**31), Fraction(5, 2**31), Fraction(1, 4), Fraction(3, 4)]:
         for bits in around(pattern(number, F64)):
             yield plain(bits)
             yield plain(bits | MINUS64)
     yield plain(0x3FA999999999999A)  # 0.05
-    yield strike(pattern(Fraction(1, 2**16), F32), pattern(Fraction(1, 2**15), F32))
+    for odd in (1, 3, 5):
+        yield strike(pattern(Fraction(odd, 2**16), F32), pattern(Fraction(1, 2**15), F32))
     edges64 = [0, 1, 2, 2**52 - 1, 2**52, 2**52 + 1, ONE64 - 1, ONE64, ONE64 + 1, ONE64 + 2, INF64 - 1, INF64, INF64 + 1, INF64 + 2**51, MINUS64 - 1]
     edges32 = [0, 1, 2, 2**23 - 1, 2**23, 2**23 + 1, ONE32 - 1, ONE32, ONE32 + 1, ONE32 + 2, INF32 - 1, INF32, INF32 + 1, INF32 + 2**22, MINUS32 - 1]
     for bits in edges64:

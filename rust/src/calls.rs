@@ -149,8 +149,8 @@ pub fn read_gate(area: &[u32], gate: u32) -> Result<GateReading, Refusal> {
     answer(returned, GateReading { right: right == 1, failure })
 }
 
-/// The weighted average of the reliability over all patterns, in units; `weights[q]` is the weight
-/// of pattern q. The pattern stays as it is.
+/// The weighted average of the reliability over all patterns, in units, a half to the even unit;
+/// `weights[q]` is the weight of pattern q. The pattern stays as it is.
 ///
 /// Refused in this order: 13, 14, 12.
 pub fn average(area: &mut [u32], weights: &[u32]) -> Result<u32, Refusal> {

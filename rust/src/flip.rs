@@ -1,4 +1,4 @@
-/// How a gate flips.
+/// How a gate flips. A chance is rounded once, to the nearest unit, and a half to the even unit.
 #[derive(Clone, Copy, Debug, PartialEq)]
 pub enum Flip {
     /// It never flips.

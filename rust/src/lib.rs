@@ -3,7 +3,7 @@
 //!
 //! Every call answers a [`Result`]: its result, or a [`Refusal`] with the number and place that
 //! docs/SCOPE.md gives. A refused call has changed nothing. Figures are whole numbers of units, of
-//! which [`ONE`] make 1.
+//! which [`ONE`] make 1; what is rounded goes to the nearest unit, and a half to the even unit.
 //!
 //! ```
 //! use filzaod::{average, open, read_gate, read_netlist, set_flip, text, toggle_input, Flip, MAX_WORDS};

@@ -57,6 +57,9 @@ fn every_way_to_set_a_flip() {
         (Flip::Chance(0.05), 53_687_091),
         (Flip::Chance(1.0), ONE),
         (Flip::Chance(-0.0), 0),
+        (Flip::Chance(0.5 / f64::from(ONE)), 0),
+        (Flip::Chance(1.5 / f64::from(ONE)), 2),
+        (Flip::Chance(2.5 / f64::from(ONE)), 2),
         (Flip::Strike { chance: 0.5, window: 0.25 }, ONE / 8),
         (Flip::Raw { kind: 1, field: 0.5f64.to_le_bytes() }, ONE / 2),
     ];

@@ -1,7 +1,7 @@
--- Sheets with known results that are to be proved, as one table: document 01's conversions of chances and openings of images with what they come to, and
--- for document 02, card 1, in how many listed patterns each gate's flip is seen.
+-- Sheets with known results that are to be proved, as one table: document 01's conversions of chances and openings of images with what they come to; for
+-- document 02, card 1, in how many listed patterns each gate's flip is seen; and for card 3 an exact half in each place that rounds, both ways.
 -- `SheetsHold` says that the definitions give the table; proofs/Sheets.antt proves it.
-use Prim.Native.Nat.{ℕ, _+_, _*_, _/_, _^_}
+use Prim.Native.Nat.{ℕ, _+_, _-_, _*_, _/_, _%_, _^_}
 use mathlib.Core.List.{List, [], _∷_, _++_, map}
 use mathlib.Core.Path.{_≡_}
 use lib.ListN.{replicate}
@@ -36,6 +36,13 @@ half = 0 ∷ 0 ∷ 0 ∷ 0 ∷ 0 ∷ 0 ∷ 0xe0 ∷ 0x3f ∷ []
 abbrev pub one : List ℕ
 one = 0 ∷ 0 ∷ 0 ∷ 0 ∷ 0 ∷ 0 ∷ 0xf0 ∷ 0x3f ∷ []
 
+-- the chance (16 + s) / 16 × 2^-k, for s below 16 and k from 1 to 1022
+abbrev pub sixteenths : ℕ → ℕ → List ℕ
+sixteenths s k = 0 ∷ 0 ∷ 0 ∷ 0 ∷ 0 ∷ 0 ∷ ((1023 - k) % 16 * 16 + s) ∷ ((1023 - k) / 16) ∷ []
+
+abbrev pub power : ℕ → List ℕ
+power k = sixteenths 0 k
+
 -- ---- conversions: a kind, a field, and its units
 
 pub record Conversion : Type 0 where
@@ -48,10 +55,17 @@ conversions =
     record { kind = 1; field = twentieth; units = 53_687_091 }
     ∷ record { kind = 1; field = half; units = 536_870_912 }
     ∷ record { kind = 1; field = one; units = 1_073_741_824 }
-    -- 2^-31, 2^-32, and a strike of 2^-16 with a window of 2^-15
-    ∷ record { kind = 1; field = 0 ∷ 0 ∷ 0 ∷ 0 ∷ 0 ∷ 0 ∷ 0 ∷ 0x3e ∷ []; units = 1 }
-    ∷ record { kind = 1; field = 0 ∷ 0 ∷ 0 ∷ 0 ∷ 0 ∷ 0 ∷ 0xf0 ∷ 0x3d ∷ []; units = 0 }
-    ∷ record { kind = 2; field = 0 ∷ 0 ∷ 0x80 ∷ 0x37 ∷ 0 ∷ 0 ∷ 0 ∷ 0x38 ∷ []; units = 1 }
+    -- 2^-32; then the exact halves 2^-31, 3 × 2^-31 and 5 × 2^-31
+    ∷ record { kind = 1; field = power 32; units = 0 }
+    ∷ record { kind = 1; field = power 31; units = 0 }
+    ∷ record { kind = 1; field = sixteenths 8 30; units = 2 }
+    ∷ record { kind = 1; field = sixteenths 4 29; units = 2 }
+    -- the f64 before 2^-31 and the one after it, which are no halves
+    ∷ record { kind = 1; field = 0xff ∷ 0xff ∷ 0xff ∷ 0xff ∷ 0xff ∷ 0xff ∷ 0xff ∷ 0x3d ∷ []; units = 0 }
+    ∷ record { kind = 1; field = 1 ∷ 0 ∷ 0 ∷ 0 ∷ 0 ∷ 0 ∷ 0 ∷ 0x3e ∷ []; units = 1 }
+    -- strikes of 2^-16 and of 3 × 2^-16 with a window of 2^-15
+    ∷ record { kind = 2; field = 0 ∷ 0 ∷ 0x80 ∷ 0x37 ∷ 0 ∷ 0 ∷ 0 ∷ 0x38 ∷ []; units = 0 }
+    ∷ record { kind = 2; field = 0 ∷ 0 ∷ 0x40 ∷ 0x38 ∷ 0 ∷ 0 ∷ 0 ∷ 0x38 ∷ []; units = 2 }
     ∷ []
 
 -- ---- images: gate records, output words, the trailer; every number below 256, so that its second byte is 0
@@ -106,6 +120,21 @@ inputTwiceImage = andGate 0 0 0 never ++ (twoBytes (1 ∷ []) ++ trailer 1 1 1)
 abbrev pub deadReaderImage : List ℕ
 deadReaderImage = buffer 0 half ++ (buffer 1 half ++ (buffer 1 half ++ (twoBytes (2 ∷ []) ++ trailer 1 3 1)))
 
+-- two buffers on input 0: the second behind the first; or both side by side, an output each
+abbrev pub inARow : List ℕ → List ℕ → List ℕ
+inARow first second = buffer 0 first ++ (buffer 1 second ++ (twoBytes (2 ∷ []) ++ trailer 1 2 1))
+
+abbrev pub sideBySide : List ℕ → List ℕ → List ℕ
+sideBySide first second = buffer 0 first ++ (buffer 0 second ++ (twoBytes (1 ∷ 2 ∷ []) ++ trailer 1 2 2))
+
+-- the same two buffers on both pins of an AND that never flips
+abbrev pub underAnd : List ℕ → List ℕ → List ℕ
+underAnd first second = buffer 0 first ++ (buffer 0 second ++ (andGate 1 2 0 never ++ (twoBytes (3 ∷ []) ++ trailer 1 3 1)))
+
+-- input 0 and a buffer on it, on both pins of such an AND: the buffer's flip is seen under pattern 1 alone
+abbrev pub seenAtOne : List ℕ → List ℕ
+seenAtOne field = buffer 0 field ++ (andGate 0 1 0 never ++ (twoBytes (2 ∷ []) ++ trailer 1 2 1))
+
 -- ---- openings: how an image is judged and its live gates; and, unless it is refused, the reliability and the exact sum at each pattern in rising order,
 -- the average with all weights 1, and every gate's failure at pattern 0. The exact sums are fractions of `parts`.
 
@@ -151,6 +180,24 @@ openings =
     ∷ refused gateTwiceImage 2 9 0
     ∷ accepted inputTwiceImage 1 (replicate 2 1_073_741_824) 1_073_741_824 (0 ∷ []) (replicate 2 1) 1
     ∷ accepted deadReaderImage 2 (replicate 2 536_870_912) 536_870_912 (536_870_912 ∷ 536_870_912 ∷ 536_870_912 ∷ []) (replicate 2 1) 2
+    -- a gate step at a half: 268,435,456.5 goes down, 32,767.5 goes up
+    ∷ accepted (inARow (power 2) (power 30)) 2 (replicate 2 805_306_368) 805_306_368
+    (268_435_456 ∷ 268_435_456 ∷ []) (replicate 2 1_610_612_735) (2 ^ 31)
+    ∷ accepted (inARow (power 16) (power 16)) 2 (replicate 2 1_073_709_056) 1_073_709_056
+    (16_384 ∷ 32_768 ∷ []) (replicate 2 2_147_418_113) (2 ^ 31)
+    -- an output product at a half: 1,073,692,672.5 goes down, 536,870,911.5 goes up
+    ∷ accepted (sideBySide (power 15) (power 16)) 2 (replicate 2 1_073_692_672) 1_073_692_672
+    (32_768 ∷ 16_384 ∷ []) (replicate 2 2_147_385_345) (2 ^ 31)
+    ∷ accepted (sideBySide (power 1) (power 30)) 2 (replicate 2 536_870_912) 536_870_912
+    (536_870_912 ∷ 1 ∷ []) (replicate 2 1_073_741_823) (2 ^ 31)
+    -- a fold at a half: under pattern 0 a failure of 0.5 goes down, under pattern 1 one of 49,151.5 goes up
+    ∷ accepted (underAnd (power 15) (power 16)) 3 (1_073_741_824 ∷ 1_073_692_672 ∷ []) 1_073_717_248
+    (32_768 ∷ 16_384 ∷ 0 ∷ []) (2_147_483_647 ∷ 2_147_385_345 ∷ []) (2 ^ 31)
+    -- an average at a half: 1,073,741,822.5 goes down, 1,073,741,823.5 goes up
+    ∷ accepted (seenAtOne (sixteenths 8 29)) 2 (1_073_741_824 ∷ 1_073_741_821 ∷ []) 1_073_741_822
+    (3 ∷ 0 ∷ []) (1_073_741_824 ∷ 1_073_741_821 ∷ []) (2 ^ 30)
+    ∷ accepted (seenAtOne (power 30)) 2 (1_073_741_824 ∷ 1_073_741_823 ∷ []) 1_073_741_824
+    (1 ∷ 0 ∷ []) (1_073_741_824 ∷ 1_073_741_823 ∷ []) (2 ^ 30)
     ∷ []
 
 -- ---- counts: an image, listed patterns, and for each gate in how many of them its flip is seen

@@ -85,7 +85,7 @@ known-range p a c C k = go (k .sign) (k .value) (k .minus)
     go true v z = range-of-minus p a c C v ∙ eq-eqb a 0 (z refl)
 
 -- and whole numbers of 2^-1074 see only the value
-cross : (p : Float) (s : Bool) (a c : ℕ) → HasValue p s a c → num p * c ≡ a * den p
+pub cross : (p : Float) (s : Bool) (a c : ℕ) → HasValue p s a c → num p * c ≡ a * den p
 cross nan s a c v = absurd v
 cross (inf t) s a c v = absurd v
 cross (fin t m e) s a c v = v .1

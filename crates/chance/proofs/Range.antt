@@ -125,7 +125,7 @@ no-number false s = refl
 above-zero : (h x t : ℕ) → 0 < h → suc x * h + t ≡ 0 → ⊥
 above-zero h x t H e = omega (arith, mul-pos (zero-lt-suc x) H)
 
-fields-range : (f : Format) (s : Bool) (x t : ℕ) → t < hid f
+pub fields-range : (f : Format) (s : Bool) (x t : ℕ) → t < hid f
     → fromZeroToOne (ofFields f s x t) ≡ cond s (eqb (x * hid f + t) 0) (leb (x * hid f + t) (emax f * hid f))
 unfolding ofFields
 fields-range f true zero t d =

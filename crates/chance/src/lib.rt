@@ -41,6 +41,9 @@ const ONE_F32: u64 = 0x3f80_0000;
 
 const MINUS_ZERO_F32: u64 = 0x8000_0000;
 
+// 2^52: an f64's digits are below it, and it stands before them where the exponent is not 0.
+const LEADING_DIGIT: u64 = 0x10_0000_0000_0000;
+
 pub fn wide(x: u8) -> u32
     ensures { λ r. ⌜ (r ≡ x) × (r < 256) ⌝ }
 {
@@ -131,14 +134,18 @@ pub fn read_flip(kind: u8, field: [u8; 8]) -> FlipRead
     }
 }
 
-// The one place where a chance is rounded to units. The product is exact and counts half units; an odd count is a half over or more, and
-// goes up.
+// The one place where a chance becomes units. Below 2^-31, half a unit, there are none. From there on, with an exponent of 992 or more, a
+// chance is 2^52 and its digits, times 2^(exponent - 1075): whole numbers are rounded, so no rounding mode for floats matters.
 fn nearest_units(chance: f64) -> u32
     requires { ⌜ fromZeroToOne chance ≡ true ⌝ }
     ensures { λ r. ⌜ r ≡ toUnits unitsInOne chanceScale (wholeChance (num chance) (den chance)) ⌝ }
 {
-    let halves = std::num::truncating_f64_to_u64(chance * 2147483648.0);
-    ((halves + 1) / 2) as u32
+    let bits = f64::to_bits(chance);
+    let exponent = bits % MINUS_ZERO_F64 / LEADING_DIGIT;
+    if exponent < 992 {
+        return 0;
+    }
+    rounding::rounded(bits % LEADING_DIGIT + LEADING_DIGIT, 1 << (1045 - exponent)) as u32
 }
 
 // The product of two f32 is exact as an f64.

@@ -50,6 +50,10 @@ spreadPins (p ∷ ps) xs = spreadPin (p .word) (p .bit) (spreadPins ps xs)
 abbrev pub differs : ℕ → ℕ → ℕ → ℕ → ℕ
 differs u table right x = cond (eqb (table / 2 ^ x % 2) right) 0 u
 
+-- a value that is 0 or u, as those of step 1 are
+abbrev pub NoneOrAll : ℕ → ℕ → Type 0
+NoneOrAll u x = (x % u ≡ 0) × (x ≤ u)
+
 -- the last value of the fold for these pins, from the index `start`
 unfoldable pub lastValue : ℕ → ℕ → ℕ → ℕ → List Pin → ℕ
 lastValue u table right start ps =

@@ -9,7 +9,10 @@ ghost use Prim.Native.Nat.{ℕ, _+_, _*_, _/_, _%_, _^_, _<_, _≤_};
 ghost use lib.ListN.{getD, take};
 ghost use Rattle.rounding.specs.Rounding.{unitsInOne, blend};
 ghost use Rattle.figure.specs.Figure.{failureOf, foldStep, gateStep, outputStep};
-ghost use Rattle.figure.specs.Steps.{firstPins, room, spreadPin, differs, pinsWord};
+ghost use Rattle.figure.specs.Steps.{firstPins, room, spreadPin, differs, NoneOrAll, pinsWord};
+
+// U in 32 bits: no value of the fold passes it.
+const ONE: u32 = 1_073_741_824;
 
 // Each of the first `used` indices becomes two: the pin right, the pin wrong. The pin adds its bit to an index where its value is 1.
 fn spread_pin(
@@ -53,7 +56,7 @@ fn difference(table: u32, right: u32, index: u32) -> u32
     if answer_at(table, index) == right {
         0
     } else {
-        rounding::UNITS_IN_ONE as u32
+        ONE
     }
 }
 
@@ -62,7 +65,7 @@ fn start_values(table: u32, right: u32, indices: [u32; 16], used: usize) -> [u32
     requires { ⌜ used ≤ 16 ⌝ }
     requires { ⌜ ((i : ℕ) → i < used → getD indices i 0 ≤ 15) ⌝ }
     ensures { λ r. ⌜ take used r ≡ map (differs unitsInOne table right) (take used indices) ⌝ }
-    ensures { λ r. ⌜ ((i : ℕ) → i < used → getD r i 0 ≤ unitsInOne) ⌝ }
+    ensures { λ r. ⌜ ((i : ℕ) → i < used → NoneOrAll unitsInOne (getD r i 0)) ⌝ }
 {
     let mut values = [0u32; 16];
     let mut i = 0;
@@ -73,7 +76,36 @@ fn start_values(table: u32, right: u32, indices: [u32; 16], used: usize) -> [u32
     values
 }
 
-// A pair of the fold, (pin right, pin wrong), made one value: their mean. No value passes U, so 32 bits hold it; 64 are for the products.
+// A pair of the first step, (pin right, pin wrong), made one value. Both are 0 or U, so the quotients are 0 or 1, and the mean is exact: the
+// shares of those that are U. The compiler makes moves of it, neither products nor branches.
+fn first_pair(right: u32, wrong: u32, failure: u32) -> u32
+    requires { ⌜ NoneOrAll unitsInOne right ⌝ }
+    requires { ⌜ NoneOrAll unitsInOne wrong ⌝ }
+    requires { ⌜ failure ≤ unitsInOne ⌝ }
+    ensures { λ r. ⌜ r ≡ blend unitsInOne right wrong failure ⌝ }
+{
+    right / ONE * (ONE - failure) + wrong / ONE * failure
+}
+
+// Step 2 of the figures for the pin that is folded first, on the first 2 × half values of step 1: each pair becomes one, and half as many
+// are in use. Nothing is rounded.
+fn fold_first(values: [u32; 16], half: usize, words: &[u32; 4], pin: usize) -> [u32; 16]
+    requires { ⌜ (half ≤ 8) × (pin < 4) × (failureOf (getD (now words) pin 0) ≤ unitsInOne) ⌝ }
+    requires { ⌜ ((i : ℕ) → i < 2 * half → NoneOrAll unitsInOne (getD values i 0)) ⌝ }
+    ensures { λ r. ⌜ take half r ≡ foldStep unitsInOne (failureOf (getD (now (words .entry)) pin 0)) (take (2 * half) values) ⌝ }
+    ensures { λ r. ⌜ ((i : ℕ) → i < half → getD r i 0 ≤ unitsInOne) ⌝ }
+{
+    let failure = words[pin] / 2;
+    let mut values = values;
+    let mut i = 0;
+    while i < half {
+        values[i] = first_pair(values[2 * i], values[2 * i + 1], failure);
+        i += 1;
+    }
+    values
+}
+
+// A pair of a later step, made one value: the mean. No value passes U, so 32 bits hold it; 64 are for the products.
 fn fold_pair(right: u32, wrong: u32, failure: u32) -> u32
     requires { ⌜ right ≤ unitsInOne ⌝ }
     requires { ⌜ wrong ≤ unitsInOne ⌝ }
@@ -83,8 +115,7 @@ fn fold_pair(right: u32, wrong: u32, failure: u32) -> u32
     rounding::blended(right as u64, wrong as u64, failure as u64) as u32
 }
 
-// Step 2 of the figures for one pin: of the first 2 × half values each pair (pin right, pin wrong) becomes one, and half as many are
-// in use.
+// Step 2 of the figures for a later pin: of the first 2 × half values each pair becomes one, and half as many are in use.
 fn fold_step(values: [u32; 16], half: usize, words: &[u32; 4], pin: usize) -> [u32; 16]
     requires { ⌜ (half ≤ 8) × (pin < 4) × (failureOf (getD (now words) pin 0) ≤ unitsInOne) ⌝ }
     requires { ⌜ ((i : ℕ) → i < 2 * half → getD values i 0 ≤ unitsInOne) ⌝ }
@@ -147,7 +178,7 @@ pub fn word_one(table: u32, start: u32, words: [u32; 4], bits: [u32; 4], flip: u
     let at = spread_pin([start; 16], 1, words, bits, 0);
     let right = answer_at(table, at[0]);
     let values = start_values(table, right, at, 2);
-    let values = fold_step(values, 1, words, 0);
+    let values = fold_first(values, 1, words, 0);
     word_of(values[0], flip, right)
 }
 
@@ -162,7 +193,7 @@ pub fn word_two(table: u32, start: u32, words: [u32; 4], bits: [u32; 4], flip: u
     let at = spread_pin(at, 2, words, bits, 0);
     let right = answer_at(table, at[0]);
     let values = start_values(table, right, at, 4);
-    let values = fold_step(values, 2, words, 0);
+    let values = fold_first(values, 2, words, 0);
     let values = fold_step(values, 1, words, 1);
     word_of(values[0], flip, right)
 }
@@ -179,7 +210,7 @@ pub fn word_three(table: u32, start: u32, words: [u32; 4], bits: [u32; 4], flip:
     let at = spread_pin(at, 4, words, bits, 0);
     let right = answer_at(table, at[0]);
     let values = start_values(table, right, at, 8);
-    let values = fold_step(values, 4, words, 0);
+    let values = fold_first(values, 4, words, 0);
     let values = fold_step(values, 2, words, 1);
     let values = fold_step(values, 1, words, 2);
     word_of(values[0], flip, right)
@@ -198,7 +229,7 @@ pub fn word_four(table: u32, start: u32, words: [u32; 4], bits: [u32; 4], flip: 
     let at = spread_pin(at, 8, words, bits, 0);
     let right = answer_at(table, at[0]);
     let values = start_values(table, right, at, 16);
-    let values = fold_step(values, 8, words, 0);
+    let values = fold_first(values, 8, words, 0);
     let values = fold_step(values, 4, words, 1);
     let values = fold_step(values, 2, words, 2);
     let values = fold_step(values, 1, words, 3);

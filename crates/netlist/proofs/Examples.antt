@@ -54,9 +54,11 @@ pub shared-product : reliability 16 4 shared 0 ≡ 4
 unfolding reliability failures rightValues gateFailure gateStep startValues difference answer outputStep blend roundDiv toUnits
 shared-product = refl
 
--- averages: an exact one, two thirds go up, one third goes down, a half goes up
-pub averages : map (averageUnits 16 4 forgiving) ((1 ∷ 1 ∷ 1 ∷ 1 ∷ []) ∷ (2 ∷ 0 ∷ 1 ∷ 0 ∷ []) ∷ (1 ∷ 0 ∷ 2 ∷ 0 ∷ []) ∷ (1 ∷ 0 ∷ 0 ∷ 3 ∷ []) ∷ [])
-    ≡ 11 ∷ 11 ∷ 11 ∷ 12 ∷ []
+-- averages: an exact one, two thirds go up, one third goes down; a half above 11 and one above 10 go to the even number
+pub averages :
+    map (averageUnits 16 4 forgiving)
+    ((1 ∷ 1 ∷ 1 ∷ 1 ∷ []) ∷ (2 ∷ 0 ∷ 1 ∷ 0 ∷ []) ∷ (1 ∷ 0 ∷ 2 ∷ 0 ∷ []) ∷ (1 ∷ 0 ∷ 0 ∷ 3 ∷ []) ∷ (3 ∷ 0 ∷ 0 ∷ 1 ∷ []) ∷ [])
+    ≡ 11 ∷ 11 ∷ 11 ∷ 12 ∷ 10 ∷ []
 unfolding
     averageUnits totalWeight reliability failures rightValues
     gateFailure gateStep startValues difference answer outputStep blend roundDiv toUnits

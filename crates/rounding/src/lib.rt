@@ -6,13 +6,14 @@ ghost use Rattle.rounding.specs.Rounding.{unitsInOne, roundDiv, blend};
 // U of document 01: the number of units in 1.
 pub const UNITS_IN_ONE: u64 = 1_073_741_824;
 
-// `sum` divided by `count`, to the nearest whole number: the one place where the code of the figures rounds.
+// `sum` divided by `count`, to the nearest whole number: the one place where the code of the figures rounds. Just short of half a count
+// is added, and at an odd quotient the half itself, so that a half goes to the even number; no branch is taken.
 pub fn rounded(sum: u64, count: u64) -> u64
     requires { ⌜ 0 < count ⌝ }
     requires { ⌜ 2 * sum + 2 * count < 18_446_744_073_709_551_616 ⌝ }
     ensures { λ r. ⌜ r ≡ roundDiv sum count ⌝ }
 {
-    (2 * sum + count) / (2 * count)
+    (2 * sum + (count - 1) + sum / count % 2) / (2 * count)
 }
 
 // The mean of `right` and `wrong`, where `wrong` has the share `failure` of U, to the nearest unit.

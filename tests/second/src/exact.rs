@@ -139,12 +139,18 @@ pub fn whole_chance(chance: Chance) -> Big {
     Big::from_u64(chance.numerator).shifted(CHANCE_BITS - chance.shift)
 }
 
-/// chance × U to the nearest whole number, a half up, straight from the definition:
-/// floor(chance × U + 1/2), all multiplied by 2^1075.
+/// chance × U to the nearest whole number, a half to the even one, straight from the definition: the
+/// whole half units, and whether anything is left over, say how far the number above is.
 pub fn nearest_units(chance: Chance) -> u64 {
-    let mut twice = whole_chance(chance).times_u64(2 * U);
-    twice.add(&Big::from_u64(1).shifted(CHANCE_BITS));
-    twice.shifted_down(CHANCE_BITS + 1).to_u64().expect("a chance is at most 1")
+    let twice = whole_chance(chance).times_u64(2 * U);
+    let halves = twice.shifted_down(CHANCE_BITS).to_u64().expect("a chance is at most 1");
+    let left_over = Big::from_u64(halves).shifted(CHANCE_BITS).compare(&twice) != Ordering::Equal;
+    let below = halves / 2;
+    match (halves % 2, left_over) {
+        (0, _) => below,
+        (_, true) => below + 1,
+        (_, false) => below.next_multiple_of(2),
+    }
 }
 
 /// The exact sums of one netlist with its chances. All of them are over D^G, with D = 2^1074.

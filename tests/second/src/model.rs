@@ -53,8 +53,8 @@ fn answered<T>(outcome: Result<T, Refusal>) -> Answer<T> {
 
 #[derive(Clone, Copy, Debug, PartialEq, Eq)]
 pub enum Rounding {
-    HalfUp,
     HalfEven,
+    HalfUp,
     Down,
 }
 
@@ -71,8 +71,8 @@ pub struct Variant {
 
 impl Variant {
     pub const DOCUMENT: Variant = Variant {
-        rounding: Rounding::HalfUp,
-        average_rounding: Rounding::HalfUp,
+        rounding: Rounding::HalfEven,
+        average_rounding: Rounding::HalfEven,
         dead_readers_count: false,
         not_a_number_passes: false,
     };
@@ -83,10 +83,10 @@ fn divide(rounding: Rounding, numerator: u128, denominator: u128) -> u128 {
     let down = numerator / denominator;
     let twice_rest = 2 * (numerator % denominator);
     let up = match rounding {
-        Rounding::HalfUp => twice_rest >= denominator,
         Rounding::HalfEven => {
             twice_rest > denominator || (twice_rest == denominator && down % 2 == 1)
         }
+        Rounding::HalfUp => twice_rest >= denominator,
         Rounding::Down => false,
     };
     down + u128::from(up)
@@ -95,7 +95,10 @@ fn divide(rounding: Rounding, numerator: u128, denominator: u128) -> u128 {
 /// `numerator / U`; the same as `divide`, in 64 bits because every figure passes through here.
 fn divide_by_u(rounding: Rounding, numerator: u64) -> u64 {
     match rounding {
-        Rounding::HalfUp => (numerator + U / 2) / U,
+        Rounding::HalfEven => {
+            let near = (numerator + U / 2) / U;
+            near - u64::from(numerator % U == U / 2) * (near % 2)
+        }
         _ => divide(rounding, u128::from(numerator), u128::from(U)) as u64,
     }
 }
@@ -182,7 +185,7 @@ fn units(rounding: Rounding, chance: Chance) -> u32 {
 
 /// A chance in units, by the document's rounding.
 pub fn chance_units(chance: Chance) -> u32 {
-    units(Rounding::HalfUp, chance)
+    units(Rounding::HalfEven, chance)
 }
 
 /// The bits of the f64 that equals units / 2^30, made without a floating-point operation.

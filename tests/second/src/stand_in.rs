@@ -11,8 +11,8 @@ enum Fault {
     None,
     /// Every division but the last of an average rounds down.
     RoundDown,
-    /// A half goes to the even neighbour.
-    HalfEven,
+    /// A half goes up.
+    HalfUp,
     /// Dead gates count as readers in refusal 9.
     DeadReaders,
     /// A chance that is no number is taken for 0.
@@ -41,8 +41,8 @@ enum Fault {
     AverageLeaves,
     /// The last division of an average rounds down.
     AverageDown,
-    /// The last division of an average takes a half to the even neighbour.
-    AverageEven,
+    /// The last division of an average takes a half up.
+    AverageHalfUp,
     /// Opening lowers the reliability by two units for each live gate: only just too far off.
     TwoUnitsOff,
     /// The live count includes dead gates.
@@ -65,7 +65,7 @@ enum Fault {
 
 const FAULTS: [(&str, Fault); 26] = [
     ("round_down", Fault::RoundDown),
-    ("half_even", Fault::HalfEven),
+    ("half_up", Fault::HalfUp),
     ("dead_readers", Fault::DeadReaders),
     ("not_a_number", Fault::NotANumber),
     ("strike_in_f32", Fault::StrikeInF32),
@@ -80,7 +80,7 @@ const FAULTS: [(&str, Fault); 26] = [
     ("reliability_in_f32", Fault::ReliabilityInF32),
     ("average_leaves", Fault::AverageLeaves),
     ("average_down", Fault::AverageDown),
-    ("average_even", Fault::AverageEven),
+    ("average_half_up", Fault::AverageHalfUp),
     ("two_units_off", Fault::TwoUnitsOff),
     ("all_live", Fault::AllLive),
     ("last_word", Fault::LastWord),
@@ -109,9 +109,9 @@ fn bench() -> Model {
     let mut variant = Variant::DOCUMENT;
     match fault() {
         Fault::RoundDown => variant.rounding = Rounding::Down,
-        Fault::HalfEven => variant.rounding = Rounding::HalfEven,
+        Fault::HalfUp => variant.rounding = Rounding::HalfUp,
         Fault::AverageDown => variant.average_rounding = Rounding::Down,
-        Fault::AverageEven => variant.average_rounding = Rounding::HalfEven,
+        Fault::AverageHalfUp => variant.average_rounding = Rounding::HalfUp,
         Fault::DeadReaders => variant.dead_readers_count = true,
         Fault::NotANumber => variant.not_a_number_passes = true,
         _ => {}

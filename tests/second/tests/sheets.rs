@@ -57,20 +57,56 @@ fn chances_in_units() {
 }
 
 #[test]
-fn small_chances_round_a_half_up() {
+fn small_chances_round_a_half_to_the_even_unit() {
     let half = 1.0 / (1u64 << 31) as f64;
-    assert_eq!(units(chance(half)), 1);
+    assert_eq!(units(chance(half)), 0);
     assert_eq!(units(chance(half / 2.0)), 0);
     assert_eq!(units(chance_bits(half.to_bits() - 1)), 0);
+    assert_eq!(units(chance_bits(half.to_bits() + 1)), 1);
     assert_eq!(units(chance(3.0 * half)), 2);
-    assert_eq!(units(chance(5.0 * half)), 3);
-    assert_eq!(units(strike(1.0 / 65_536.0, 1.0 / 32_768.0)), 1);
+    assert_eq!(units(chance(5.0 * half)), 2);
+    assert_eq!(units(strike(1.0 / 65_536.0, 1.0 / 32_768.0)), 0);
+    assert_eq!(units(strike(3.0 / 65_536.0, 1.0 / 32_768.0)), 2);
     assert_eq!(units(strike(1.0 / 65_536.0, 1.0 / 65_536.0)), 0);
     assert_eq!(units(strike(1.0, 1.0)), ONE);
     assert_eq!(units(strike(-0.0, 1.0)), 0);
     // The smallest numbers of each format.
     assert_eq!(units(chance_bits(1)), 0);
     assert_eq!(units(strike_bits(1, 1)), 0);
+}
+
+/// Buffers on input 0 with these chances in units, first to last, and what reads them.
+fn buffers(units: &[u32], more: &[Record], outputs: &[u16]) -> Vec<u32> {
+    let flip = |units: &u32| chance(f64::from(*units) / U as f64);
+    let mut gates: Vec<Record> =
+        units.iter().map(|units| Record::new(2, &[0], flip(units))).collect();
+    gates.extend_from_slice(more);
+    opened(&draft(1, gates, outputs)).0
+}
+
+#[test]
+fn an_exact_half_goes_to_the_even_unit_in_every_place() {
+    let reliability = |area: &[u32]| ffi::read_netlist(area).done().units;
+    // Gate steps: a buffer behind a buffer, 268,435,456.5 and 32,767.5.
+    let behind = |units: u32| Record::new(2, &[1], chance(f64::from(units) / U as f64));
+    let area = buffers(&[1 << 28], &[behind(1)], &[2]);
+    assert_eq!(ffi::read_gate(&area, 1).done().failure, 268_435_456);
+    let area = buffers(&[1 << 14], &[behind(1 << 14)], &[2]);
+    assert_eq!(ffi::read_gate(&area, 1).done().failure, 32_768);
+    // Output products: 1,073,692,672.5 and 536,870,911.5.
+    assert_eq!(reliability(&buffers(&[1 << 15, 1 << 14], &[], &[1, 2])), 1_073_692_672);
+    assert_eq!(reliability(&buffers(&[1 << 29, 1], &[], &[1, 2])), 536_870_912);
+    // A fold: an AND of two buffers, 0.5 under pattern 0 and 49,151.5 under pattern 1.
+    let mut area = buffers(&[1 << 15, 1 << 14], &[Record::new(8, &[1, 2], NEVER)], &[3]);
+    assert_eq!(ffi::read_gate(&area, 2).done().failure, 0);
+    ffi::toggle_input(&mut area, 0).done();
+    assert_eq!(ffi::read_gate(&area, 2).done().failure, 49_152);
+    // Averages of U and U - 3, and of U and U - 1.
+    let and = Record::new(8, &[0, 1], NEVER);
+    let mut area = buffers(&[3], std::slice::from_ref(&and), &[2]);
+    assert_eq!(ffi::average(&mut area, &[1, 1]).done(), ONE - 2);
+    let mut area = buffers(&[1], &[and], &[2]);
+    assert_eq!(ffi::average(&mut area, &[1, 1]).done(), ONE);
 }
 
 #[test]

@@ -12,4 +12,4 @@ returns-2 : tie.Need-returns-2
 returns-2 c = simp (ne-eqb _ _ (rw (c .before .answer-at .ensures) at (c .if1 .left)))
 
 pub difference-spec : {M : Type 1} → statement M
-difference-spec = tie.close (tie.spec (λ c κs. search needs) (λ c. search needs) returns returns-2)
+difference-spec = tie.close (tie.spec (λ c κs. search needs) returns returns-2)

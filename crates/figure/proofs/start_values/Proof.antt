@@ -1,15 +1,15 @@
 -- `figure::start_values` meets its contract: after i turns the first i values are filled in. Assumes nothing.
 use Prim.Native.Nat.{ℕ, _-_, _/_, _%_, _^_, _≤_}
 use mathlib.Core.Bool.{Bool}
-use mathlib.Core.Path.{_≡_}
+use mathlib.Core.Path.{_≡_, sym, subst}
 use mathlib.Core.List.{map}
 use native.Mathlib.Omega.{arith}
 use lib.Dec.{eqb}
 use lib.ListN.{length, take, length-set}
 use Rattle.rounding.specs.Rounding.{unitsInOne}
-use Rattle.figure.specs.Steps.{differs}
+use Rattle.figure.specs.Steps.{differs, NoneOrAll}
 use Rattle.figure.proofs.Spread.{map-turn}
-use Rattle.figure.proofs.Under.{part₀, under-choices}
+use Rattle.figure.proofs.Under.{in-part, choices}
 use borrow.Author.Needs.{needs}
 use Rattle.figure.proofs.start_values.Statement.{statement}
 use Rattle.figure.proofs.start_values.Tie as tie
@@ -40,7 +40,7 @@ returns c =
     let test : ℕ → Bool = λ x. eqb (a .table / 2 ^ x % 2) (a .right) in
     let end : c .before .loop .i ≡ a .used = omega arith in
     let done : take (a .used) values ≡ map (differs unitsInOne (a .table) (a .right)) (take (a .used) (a .t3)) = rw end at (c .before .loop .inv .2) in
-    (done, part₀ unitsInOne values _ (a .used) done (under-choices unitsInOne test (take (a .used) (a .t3))))
+    (done, λ i l. subst (NoneOrAll unitsInOne) (sym (in-part values _ (a .used) done i l)) (choices unitsInOne test (take (a .used) (a .t3)) i))
 
 pub start-values-spec : {M : Type 1} → statement M
 start-values-spec =

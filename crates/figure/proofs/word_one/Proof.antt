@@ -37,13 +37,13 @@ start-values-requires c κs =
     let s = entry d in
     (omega arith, spread-small (s .args .start) (pins s 0) 2 (d .spread-pin .result) (spread d) (omega arith))
 
-fold-step-requires : tie.Need-fold-step-requires
-fold-step-requires c κs = search (needs, entry (c .before .before) .pre .1)
+fold-first-requires : tie.Need-fold-first-requires
+fold-first-requires c κs = search (needs, entry (c .before .before) .pre .1)
 
 word-of-requires : tie.Need-word-of-requires
 word-of-requires c κs =
     let d = c .before .before in
-    (c .fold-step .ensures .1 0 (omega arith), entry (d .before) .pre .0 .1, omega (arith, d .answer-at .ensures))
+    (c .fold-first .ensures .1 0 (omega arith), entry (d .before) .pre .0 .1, omega (arith, d .answer-at .ensures))
 
 returns : tie.Need-returns
 returns c =
@@ -51,8 +51,8 @@ returns c =
     let s = entry (d .before) in
     c .word-of .ensures
     ∙ word-made (s .args .start) (pins s 0) 2 (d .before .spread-pin .result) (spread (d .before)) (s .args .table) (d .answer-at .result) _
-    (c .before .fold-step .result) (omega arith) (d .answer-at .ensures)
-    (rw (c .before .fold-step .ensures .0, c .before .before .start-values .ensures .0))
+    (c .before .fold-first .result) (omega arith) (d .answer-at .ensures)
+    (rw (c .before .fold-first .ensures .0, c .before .before .start-values .ensures .0))
 
 pub word-one-spec : {M : Type 1} → statement M
 word-one-spec =
@@ -62,7 +62,7 @@ word-one-spec =
     (λ c. search needs)
     answer-at-requires
     start-values-requires
-    fold-step-requires
+    fold-first-requires
     (λ c. search needs)
     word-of-requires
     returns)
