@@ -350,21 +350,14 @@ static void time_counts(double best[4]) {
     }
 }
 
-static void print_counts(double best[KINDS][4]) {
-    printf("\n%-12s %10s %10s %6s | %10s %10s %6s\n", "netlist", "flip ms", "C", "ratio", "mask ms", "C", "ratio");
-    for (int kind = 0; kind < KINDS; kind++) {
-        const double *b = best[kind];
-        printf("%-12s %10.1f %10.1f %6.2f | %10.2f %10.2f %6.2f\n", kinds[kind], b[0] / 1e6, b[1] / 1e6, b[0] / b[1], b[2] / 1e6, b[3] / 1e6, b[2] / b[3]);
-    }
-}
+/* a row: call, netlist, the library's best time and C's, in ns */
+static void tell(const char *call, int kind, double here, double c) { printf("%s\t%s\t%.0f\t%.0f\n", call, kinds[kind], here, c); }
 
 int main(void) {
-    double counted[KINDS][4];
+    double counted[4];
     uint64_t kept = seed;
     for (int q = 0; q < 4096; q++) weights[q] = 1, listed[q] = next() % 4096;
     seed = kept; /* so that the patterns do not change the netlists */
-    printf("%-12s %10s %10s %6s | %10s %10s %6s | %10s %10s %6s | %9s %9s %9s %6s\n", "netlist", "open us", "C", "ratio", "toggle us", "C", "ratio",
-           "set us", "C", "ratio", "avg ms", "C all", "C Gray", "ratio");
     for (int kind = 0; kind < KINDS; kind++) {
         make_kind(kind);
         memset(mine, 0, sizeof mine), memset(theirs, 0, sizeof theirs);
@@ -395,11 +388,9 @@ int main(void) {
             if (units != units2) { printf("the averages differ\n"); return 1; }
             same("average");
         }
-        double c = a2 < a3 ? a2 : a3;
-        printf("%-12s %10.1f %10.1f %6.2f | %10.2f %10.2f %6.2f | %10.2f %10.2f %6.2f | %9.1f %9.1f %9.1f %6.2f\n", kinds[kind], o1 / 1e3, o2 / 1e3,
-               o1 / o2, t1 / 1e3, t2 / 1e3, t1 / t2, s1 / 1e3, s2 / 1e3, s1 / s2, a1 / 1e6, a2 / 1e6, a3 / 1e6, a1 / c);
-        time_counts(counted[kind]);
+        time_counts(counted);
+        tell("open", kind, o1, o2), tell("toggle_input", kind, t1, t2), tell("set_flip", kind, s1, s2), tell("average", kind, a1, a2 < a3 ? a2 : a3);
+        tell("counts_by_flip", kind, counted[0], counted[1]), tell("counts_by_mask", kind, counted[2], counted[3]);
     }
-    print_counts(counted);
     return 0;
 }
