@@ -134,8 +134,9 @@ pub fn read_flip(kind: u8, field: [u8; 8]) -> FlipRead
     }
 }
 
-// The one place where a chance becomes units. Below 2^-31, half a unit, there are none. From there on, with an exponent of 992 or more, a
-// chance is 2^52 and its digits, times 2^(exponent - 1075): whole numbers are rounded, so no rounding mode for floats matters.
+// The one place where a chance becomes units; a sign, which only zero may have, is left out. Below 2^-31, half a unit, there are none. From
+// there on, with an exponent of 992 or more, a chance is 2^52 and its digits, times 2^(exponent - 1075), and 2^30 units make 1. What is
+// rounded are whole numbers, so no rounding mode for floats matters.
 fn nearest_units(chance: f64) -> u32
     requires { ⌜ fromZeroToOne chance ≡ true ⌝ }
     ensures { λ r. ⌜ r ≡ toUnits unitsInOne chanceScale (wholeChance (num chance) (den chance)) ⌝ }
