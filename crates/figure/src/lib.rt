@@ -12,7 +12,7 @@ ghost use Rattle.figure.specs.Figure.{failureOf, foldStep, gateStep, out
 ghost use Rattle.figure.specs.Steps.{firstPins, room, spreadPin, differs, NoneOrAll, pinsWord};
 
 // U in 32 bits: no value of the fold passes it.
-const ONE: u32 = 1_073_741_824;
+const ONE: u32 = rounding::UNITS_IN_ONE as u32;
 
 // Each of the first `used` indices becomes two: the pin right, the pin wrong. The pin adds its bit to an index where its value is 1.
 fn spread_pin(
