@@ -111,7 +111,7 @@
  * type will do. Pointers are aligned for their type. What one pointer of a call can write must not
  * overlap what another pointer of the same call names, and no other thread touches it meanwhile.
  *
- * bench_open takes up to 46 KB of stack, bench_average 38 KB, bench_counts_by_flip and
+ * bench_open takes up to 46 KB of stack, bench_average 160 KB, bench_counts_by_flip and
  * bench_counts_by_mask 42 KB, the other calls less. No call allocates memory, and calls on
  * different areas may run at the same time.
  */

@@ -1,6 +1,7 @@
 /* Times the calls of the proved library beside the same steps written in C, on the same netlists in one run: open, toggle_input, set_flip, average,
-   counts_by_flip and counts_by_mask on forests of 2-, 3- and 4-pin gates, a chain, and a forest whose gates are mostly dead; 12 inputs, 1,024 gates,
-   and 4,096 random patterns for the counts. Build and run: speed/run-calls.
+   counts_by_flip and counts_by_mask on forests of 2-, 3- and 4-pin gates, a chain, a forest whose gates are mostly dead, 64 narrow trees of three inputs
+   each and one balanced tree; 12 inputs, 1,024 gates, and 4,096 random patterns for the counts. Average stands beside the faster of two walks in C, over
+   every gate and in Gray order, and beside its own walk in C (rows). Build and run: speed/run-calls.
    The C steps make the same checks as the library: refusals 1 to 9 and 13 at opening, 13 and 14 on every other call, 15 to 17 before counting. */
 #include "netlists.h"
 
@@ -320,6 +321,142 @@ __attribute__((noinline)) static uint64_t c_by_mask(const uint32_t *a, size_t le
     return 0;
 }
 
+/* ---- average, as the library takes it: right values of 64 patterns in a word, failures in rows of 32, live gates alone; a gate keeps its row where no
+   input on which it depends has changed */
+
+#define ROW 32
+
+typedef struct {
+    uint32_t n, live[G], count, unseen[SOURCES], rows[SOURCES][ROW];
+    uint64_t words[SOURCES];
+} Walk;
+
+#define B4(l) 1u << (l), 2u << (l), 4u << (l), 8u << (l)
+static const uint32_t bit[32] = {B4(0), B4(4), B4(8), B4(12), B4(16), B4(20), B4(24), B4(28)};
+
+static inline uint32_t even(uint64_t sum) { return (uint32_t)((sum + (U / 2 - 1) + (sum / U & 1)) / U); }
+
+/* the mean of two rows that have 0 or U in each lane */
+static inline void first_row(uint32_t right, uint32_t wrong, const uint32_t *f, uint32_t *out) {
+    for (int l = 0; l < ROW; l++) out[l] = (-(uint32_t)!!(right & bit[l]) & ((uint32_t)U - f[l])) + (-(uint32_t)!!(wrong & bit[l]) & f[l]);
+}
+
+static inline void fold_row(const uint32_t *r, const uint32_t *w, const uint32_t *f, uint32_t *out) {
+    for (int l = 0; l < ROW; l++) out[l] = even((uint64_t)r[l] * ((uint32_t)U - f[l]) + (uint64_t)w[l] * f[l]);
+}
+
+/* one product: what is taken off goes up at a half, and one is put back where that leaves an odd number */
+static inline void gate_row(const uint32_t *last, uint32_t flip, uint32_t *out) {
+    for (int l = 0; l < ROW; l++) {
+        uint64_t product = (uint64_t)last[l] * flip + U / 4;
+        uint32_t low = (uint32_t)product % (uint32_t)(U / 2), near = last[l] + flip - (uint32_t)(product / (U / 2));
+        out[l] = near + (((uint32_t)(U / 2) - low) / (uint32_t)(U / 2) & near);
+    }
+}
+
+static inline uint64_t c_answer(const uint32_t *g, const uint64_t *p) {
+    switch (g[0]) {
+    case 0: return row(g[1], 0);
+    case 1: return of_one(g[1], 0, p[0]);
+    case 2: return of_two(g[1], 0, p[0], p[1]);
+    case 3: return of_three(g[1], 0, p[0], p[1], p[2]);
+    default: return of_four(g[1], p[0], p[1], p[2], p[3]);
+    }
+}
+
+/* the last value of the fold over the first n pins, of which `lowest` is the first that may fail; the words of the pins are left as they were */
+static void c_last(const Walk *t, const uint32_t *g, uint64_t right, int shift, uint64_t *p, unsigned lowest, unsigned n, uint32_t *out) {
+    while (lowest < n - 1 && g[1 + n] < t->n) n--;
+    const uint32_t *failures = t->rows[g[1 + n]];
+    if (lowest == n - 1) {
+        uint64_t stays = c_answer(g, p) ^ right;
+        p[n - 1] = ~p[n - 1];
+        first_row((uint32_t)(stays >> shift), (uint32_t)((c_answer(g, p) ^ right) >> shift), failures, out);
+    } else {
+        uint32_t a[ROW], b[ROW];
+        c_last(t, g, right, shift, p, lowest, n - 1, a);
+        p[n - 1] = ~p[n - 1];
+        c_last(t, g, right, shift, p, lowest, n - 1, b);
+        fold_row(a, b, failures, out);
+    }
+    p[n - 1] = ~p[n - 1];
+}
+
+static inline void c_row(Walk *t, const uint32_t *a, uint32_t j, int shift) {
+    const uint32_t *g = a + 8 + 8 * j;
+    uint32_t last[ROW], *out = t->rows[t->n + j], lowest = 0, end = g[0], flip = g[6];
+    while (end > 0 && g[1 + end] < t->n) end--;
+    if (end == 0) {
+        for (int l = 0; l < ROW; l++) out[l] = flip;
+        return;
+    }
+    while (g[2 + lowest] < t->n) lowest++;
+    uint64_t p[4] = {t->words[g[2]], t->words[g[3]], t->words[g[4]], t->words[g[5]]}, right = t->words[t->n + j];
+    if (lowest + 1 == end) {
+        p[lowest] = ~p[lowest];
+        first_row(0, (uint32_t)((c_answer(g, p) ^ right) >> shift), t->rows[g[2 + lowest]], last);
+    } else c_last(t, g, right, shift, p, lowest, end, last);
+    gate_row(last, flip, out);
+}
+
+static uint64_t c_row_sum(const Walk *t, const uint32_t *a, const uint32_t *weights, uint32_t many) {
+    uint32_t product[ROW];
+    uint64_t sum = 0;
+    for (int l = 0; l < ROW; l++) product[l] = U;
+    for (const uint32_t *o = a + 8 + 8 * a[1]; o < a + 8 + 8 * a[1] + a[2]; o++)
+        for (int l = 0; l < ROW; l++) product[l] = even((uint64_t)product[l] * ((uint32_t)U - t->rows[*o][l]));
+    for (uint32_t l = 0; l < many && l < ROW; l++) sum += (uint64_t)weights[l] * product[l];
+    return sum;
+}
+
+static void c_live(const uint32_t *a, Walk *t) {
+    uint8_t read[SOURCES] = {0};
+    for (uint32_t k = 0; k < a[2]; k++) read[a[8 + 8 * a[1] + k]] = 1;
+    for (uint32_t j = a[1]; j-- > 0;) if (read[a[0] + j]) for (uint32_t i = 0; i < a[8 + 8 * j]; i++) read[a[8 + 8 * j + 2 + i]] = 1;
+    for (uint32_t j = 0; j < a[1]; j++) if (read[a[0] + j]) t->live[t->count++] = j;
+}
+
+/* how many of the lowest bits of a row's number a source does not see: bit k is input 5 + k */
+static void c_unseen(const uint32_t *a, Walk *t) {
+    for (uint32_t i = 0; i < a[0]; i++) t->unseen[i] = i < 5 ? 7 : i - 5;
+    for (uint32_t j = 0; j < a[1]; j++) {
+        uint32_t least = 7;
+        for (uint32_t i = 0; i < a[8 + 8 * j]; i++) if (t->unseen[a[8 + 8 * j + 2 + i]] < least) least = t->unseen[a[8 + 8 * j + 2 + i]];
+        t->unseen[a[0] + j] = least;
+    }
+}
+
+static void c_work_rows(Walk *t, const uint32_t *a, uint32_t held, uint32_t number) {
+    for (uint32_t k = 0; k < t->count; k++) {
+        uint32_t unseen = t->unseen[t->n + t->live[k]];
+        if (held >> unseen != number >> unseen) c_row(t, a, t->live[k], number % 2 * ROW);
+    }
+}
+
+__attribute__((noinline)) static uint32_t c_average_rows(uint32_t *a, size_t len, const uint32_t *weights) {
+    static Walk t;
+    if (c_judge(a, len)) return 0;
+    uint64_t sum = 0, total = 0;
+    uint32_t patterns[64], many = 1u << a[0], held = 128; /* no row */
+    t.n = a[0], t.count = 0;
+    memset(t.rows, 0, sizeof t.rows[0] * t.n);
+    c_live(a, &t), c_unseen(a, &t);
+    for (uint32_t first = 0; first < many; first += 64) {
+        for (uint32_t l = 0; l < 64; l++) patterns[l] = (first + l) % many;
+        memset(t.words, 0, 8 * t.n);
+        for (uint32_t l = 0; l < 64; l++) for (uint32_t i = 0; i < t.n; i++) t.words[i] |= (uint64_t)(patterns[l] >> i & 1) << l;
+        for (uint32_t k = 0; k < t.count; k++) t.words[t.n + t.live[k]] = c_word(a + 8 + 8 * t.live[k], t.words);
+        for (uint32_t start = first; start < first + 64 && start < many; start += ROW) {
+            c_work_rows(&t, a, held, start / ROW), held = start / ROW;
+            sum += c_row_sum(&t, a, weights + start, many - start);
+        }
+    }
+    for (uint32_t q = 0; q < many; q++) total += weights[q];
+    for (uint32_t j = 0; j < a[1]; j++) c_gate(a, j);
+    a[4] = c_reliability(a);
+    return average_of(sum, total);
+}
+
 static uint32_t mine[WORDS], theirs[WORDS], weights[4096], listed[4096], my_counts[G], their_counts[G];
 
 static void same(const char *what) {
@@ -366,7 +503,7 @@ int main(void) {
         if (no) { printf("%s: refused %llu %llu\n", kinds[kind], (unsigned long long)(no >> 32), (unsigned long long)(no & 0xffffffff)); return 1; }
         c_open(theirs, WORDS, image, image_len, &live2);
         same("open");
-        double o1 = 1e18, o2 = 1e18, t1 = 1e18, t2 = 1e18, s1 = 1e18, s2 = 1e18, a1 = 1e18, a2 = 1e18, a3 = 1e18;
+        double o1 = 1e18, o2 = 1e18, t1 = 1e18, t2 = 1e18, s1 = 1e18, s2 = 1e18, a1 = 1e18, a2 = 1e18, a3 = 1e18, a4 = 1e18;
         double half = 0.3;
         uint64_t field;
         memcpy(&field, &half, 8);
@@ -386,10 +523,13 @@ int main(void) {
             if (units != units2) { printf("the averages differ\n"); return 1; }
             TIME(a3, 1, units2 = c_average_gray(theirs, WORDS, weights));
             if (units != units2) { printf("the averages differ\n"); return 1; }
+            TIME(a4, 1, units2 = c_average_rows(theirs, WORDS, weights));
+            if (units != units2) { printf("the averages differ\n"); return 1; }
             same("average");
         }
         time_counts(counted);
         tell("open", kind, o1, o2), tell("toggle_input", kind, t1, t2), tell("set_flip", kind, s1, s2), tell("average", kind, a1, a2 < a3 ? a2 : a3);
+        tell("average, same walk", kind, a1, a4);
         tell("counts_by_flip", kind, counted[0], counted[1]), tell("counts_by_mask", kind, counted[2], counted[3]);
     }
     return 0;

@@ -1,2 +1,4 @@
 pub mod WeightedSum
 pub mod BlockWords
+pub mod Patterns
+pub mod Runs

@@ -1,23 +1,22 @@
--- The weighted sum: its bounds, the average that comes of it, and what one pattern more adds to it or does not. Assumes nothing.
-use Prim.Native.Nat.{ℕ, suc, _+_, _-_, _*_, _^_, _≤_, _<_}
+-- The weighted sum: its bounds, the average that comes of it, and what a block of patterns adds to it. Assumes nothing.
+use Prim.Native.Nat.{ℕ, zero, suc, _+_, _-_, _*_, _^_, _≤_, _<_}
 use mathlib.Core.Bool.{true}
 use mathlib.Core.List.{List}
 use mathlib.Core.Logic.{by-cases}
 use mathlib.Core.Path.{_≡_, sym, ap, _∙_}
 use native.Mathlib.Decide.{decLe, decLt}
-use native.Mathlib.Nat.{zero-mul, mul-le-mul-right, mul-comm}
+use native.Mathlib.Nat.{add-zero, zero-mul, mul-le-mul-right, mul-comm}
 use native.Mathlib.Omega.{arith}
 use lib.ListN.{length, getD, set, take, drop, List·getD-eq-default}
 use lib.Pow.{pow-mono}
 use Rattle.lists.specs.Lists.{sumBelow, allZero}
 use Rattle.lists.proofs.Parts.{part-at}
 use Rattle.lists.proofs.Every.{zero-holds}
-use Rattle.lists.proofs.Sums.{sum-zeros, sum-bounded, sum-scaled}
+use Rattle.lists.proofs.Sums.{sum-same, sum-zeros, sum-bounded, sum-scaled}
 use Rattle.rounding.specs.Rounding.{unitsInOne, roundDiv}
 use Rattle.rounding.proofs.Laws.{at-most}
 use Rattle.area.specs.Layout.{mostInputs, mostPatterns, largestWeight, inputs, patternIndex}
 use Rattle.area.specs.Rules.{Workable}
-use Rattle.lanes.specs.Lanes.{laneCount}
 use Rattle.work.proofs.Sound.{workable-store-pattern, workable-work-all}
 use Rattle.calls.specs.Judgements.{WeightsFit}
 use Rattle.calls.specs.Calls.{reliabilityFor, averageOf}
@@ -28,16 +27,16 @@ reliability-fits : (ws : List ℕ) (q : ℕ) → Workable ws → q < 2 ^ inputs 
 unfolding reliabilityFor
 reliability-fits ws q workable l = workable-work-all (set ws patternIndex q) (workable-store-pattern ws q workable l) .figures .reliability-fits
 
--- ---- one pattern more, or none
+-- ---- what blocks add
+
+-- a sum in two parts
+sum-parts : (F : ℕ → ℕ) (a b : ℕ) → sumBelow (a + b) F ≡ sumBelow a F + sumBelow b (λ i. F (a + i))
+sum-parts F a zero = ap (λ (n : ℕ). sumBelow n F) (add-zero a) ∙ sym (add-zero (sumBelow a F))
+sum-parts F a (suc b) =
+    let next : a + suc b ≡ suc (a + b) = omega arith in
+    omega (arith, ap (λ (n : ℕ). sumBelow n F) next, sum-parts F a b)
 
 module _ (ws weights : List ℕ) where
-  pub weighted-more : (first l s x : ℕ) → weightedTo ws weights first + s ≡ weightedTo ws weights (first + l)
-      → x ≡ getD weights (first + l) 0 * reliabilityFor ws (first + l) → weightedTo ws weights first + (s + x) ≡ weightedTo ws weights (first + (l + 1))
-  unfolding weightedTo
-  weighted-more first l s x e f =
-      let next : first + (l + 1) ≡ suc (first + l) = omega arith in
-      omega (arith, ap (λ (i : ℕ). sumBelow i (λ q. getD weights q 0 * reliabilityFor ws q)) next)
-
   -- weights that are zero from j on add nothing
   weighted-zeros : (j k : ℕ) → ((q : ℕ) → j ≤ q → q < j + k → getD weights q 0 ≡ 0) → weightedTo ws weights (j + k) ≡ weightedTo ws weights j
   unfolding weightedTo
@@ -52,13 +51,35 @@ module _ (ws weights : List ℕ) where
       let all : k ≡ n + (k - n) = omega arith in
       ap (weightedTo ws weights) all ∙ weighted-zeros n (k - n) (λ q from to. List·getD-eq-default weights 0 from)
 
-  pub weighted-stays : (first l : ℕ) → length weights ≤ first + l → weightedTo ws weights (first + l) ≡ weightedTo ws weights (first + (l + 1))
-  weighted-stays first l past = weighted-past (first + l) past ∙ sym (weighted-past (first + (l + 1)) (omega arith))
+  -- patterns past the last add nothing
+  pub past-adds : (first size : ℕ) → length weights ≤ first → BlockAdds ws weights first size 0
+  past-adds first size past = omega (arith, weighted-past first past, weighted-past (first + size) (omega arith))
+
+  -- reliabilities times weights add what their patterns add; past the last weight they may be any
+  pub row-adds : (first size : ℕ) (row : ℕ → ℕ) → ((l : ℕ) → l < size → first + l < length weights → row l ≡ reliabilityFor ws (first + l))
+      → BlockAdds ws weights first size (sumBelow size (λ l. getD weights (first + l) 0 * row l))
+  unfolding weightedTo
+  row-adds first size row h =
+      let F : ℕ → ℕ = λ q. getD weights q 0 * reliabilityFor ws q in
+      let same : sumBelow size (λ l. getD weights (first + l) 0 * row l) ≡ sumBelow size (λ l. F (first + l)) =
+      sum-same (λ l. getD weights (first + l) 0 * row l) (λ l. F (first + l)) size (λ l less.
+      by-cases (decLt (first + l) (length weights)) (λ inside. ap (λ (r : ℕ). getD weights (first + l) 0 * r) (h l less inside))
+      (λ past.
+      let none : getD weights (first + l) 0 ≡ 0 = List·getD-eq-default weights 0 {n = first + l} (omega arith) in
+      let zero : (x : ℕ) → getD weights (first + l) 0 * x ≡ 0 = λ x. ap (λ (w : ℕ). w * x) none ∙ zero-mul x in
+      zero (row l) ∙ sym (zero (reliabilityFor ws (first + l))))) in
+      omega (arith, same, sum-parts F first size)
+
+  -- two blocks after each other
+  pub both-add : (first a b x y : ℕ) → BlockAdds ws weights first a x → BlockAdds ws weights (first + a) b y → BlockAdds ws weights first (a + b) (x + y)
+  both-add first a b x y h g =
+      let whole : first + a + b ≡ first + (a + b) = omega arith in
+      omega (arith, h, g, ap (weightedTo ws weights) whole)
 
   -- a block whose weights are all zero; the last one may be shorter
-  zero-weight : (first end : ℕ) → first ≤ end → (end < length weights → end ≡ first + laneCount)
-      → allZero (take (end - first) (drop first weights)) ≡ true → (q : ℕ) → first ≤ q → q < first + laneCount → getD weights q 0 ≡ 0
-  zero-weight first end from whole e q low high =
+  zero-weight : (first end size : ℕ) → first ≤ end → (end < length weights → end ≡ first + size)
+      → allZero (take (end - first) (drop first weights)) ≡ true → (q : ℕ) → first ≤ q → q < first + size → getD weights q 0 ≡ 0
+  zero-weight first end size from whole e q low high =
       let place : first + (q - first) ≡ q = omega arith in
       by-cases (decLt q end)
       (λ inside.
@@ -68,9 +89,9 @@ module _ (ws weights : List ℕ) where
       (λ past.
       by-cases (decLt end (length weights)) (λ short. absurd (omega (arith, whole short))) (λ all. List·getD-eq-default weights 0 (omega arith)))
 
-  pub block-empty : (first end : ℕ) → first ≤ end → (end < length weights → end ≡ first + laneCount)
-      → allZero (take (end - first) (drop first weights)) ≡ true → BlockAdds ws weights first 0
-  block-empty first end from whole e = omega (arith, weighted-zeros first laneCount (zero-weight first end from whole e))
+  pub block-empty : (first end size : ℕ) → first ≤ end → (end < length weights → end ≡ first + size)
+      → allZero (take (end - first) (drop first weights)) ≡ true → BlockAdds ws weights first size 0
+  block-empty first end size from whole e = omega (arith, weighted-zeros first size (zero-weight first end size from whole e))
 
 -- ---- what fits
 

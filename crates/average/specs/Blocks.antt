@@ -1,40 +1,70 @@
--- The walk in blocks of as many patterns as there are lanes: what the lanes hold of a block.
-use Prim.Native.Nat.{ℕ, _+_, _/_, _%_, _^_, _≤_, _<_}
+-- The walk over the patterns: 64 of them in a word of right values, and 32 in a row of failures. What words and rows hold of a block.
+use Prim.Native.Nat.{ℕ, _+_, _*_, _/_, _%_, _^_, _≤_, _<_}
+use mathlib.Core.Bool.{false}
 use mathlib.Core.List.{List, []}
 use mathlib.Core.Path.{_≡_}
 use lib.ListN.{length, getD, set}
 use Rattle.rounding.specs.Rounding.{unitsInOne}
-use Rattle.netlist.specs.Live.{readers}
-use Rattle.area.specs.Layout.{inputs, patternIndex, outputWords, sourceWord}
+use Rattle.figure.specs.Figure.{rightOf, failureOf}
+use Rattle.area.specs.Layout.{inputs, gates, patternIndex, outputWords, sourceWord}
 use Rattle.area.specs.Net.{netOf}
-use Rattle.lanes.specs.Lanes.{laneCount, laneWord}
+use Rattle.signals.specs.Signals.{laneCount, rightIn, WordsHold}
+use Rattle.rows.specs.Rows.{rowLength, rowWords, rowAt}
+use Rattle.folds.specs.Gates.{valueIn, InputsSure}
+use Rattle.plan.specs.Plan.{IsLive}
 use Rattle.work.specs.Work.{workAll}
 
 -- the word of source s with everything worked out for pattern q
 unfoldable pub wordFor : List ℕ → ℕ → ℕ → ℕ
 wordFor ws q s = sourceWord (workAll (set ws patternIndex q)) s
 
--- lane l's pattern in the block that begins at `first`; after the last pattern comes pattern 0 again
-abbrev pub lanePattern : List ℕ → ℕ → ℕ → ℕ
-lanePattern ws first l = (first + l) % 2 ^ inputs ws
+-- the pattern of entry l in a row that begins at `start`; after the last pattern comes pattern 0 again
+abbrev pub rowPattern : List ℕ → ℕ → ℕ → ℕ
+rowPattern ws start l = (start + l) % 2 ^ inputs ws
 
--- counts has the live readers of every source
-abbrev pub ReadersOf : List ℕ → List ℕ → Type 0
-ReadersOf ws counts = (s : ℕ) → getD counts s 0 ≡ readers (netOf ws [] []) s
+-- the words have the right values of the inputs and of those of the first b gates that are live, in each lane under its pattern
+pub record LiveWords (ws patterns words : List ℕ) (b : ℕ) : Type 0 where
+  pub input-words : WordsHold (inputs ws) (rightIn (netOf ws [] []) patterns) words
+  pub gate-words : (j : ℕ) → j < b → IsLive ws (inputs ws + j) → (l : ℕ) → l < laneCount
+      → valueIn words l (inputs ws + j) ≡ getD (rightIn (netOf ws [] []) patterns l) (inputs ws + j) false
 
--- lane l has the word of source s for its pattern
-abbrev pub HasWord : List ℕ → List ℕ → ℕ → ℕ → ℕ → Type 0
-HasWord ws lanes first s l = laneWord lanes l s ≡ wordFor ws (lanePattern ws first l) s
+-- the words have the right values of every live source for the row's patterns, in its lanes
+abbrev pub ValuesFrom : List ℕ → List ℕ → ℕ → Type 0
+ValuesFrom ws words start =
+    (s l : ℕ) → s < inputs ws + gates ws → IsLive ws s → l < rowLength
+    → valueIn words (start % laneCount + l) s ≡ rightOf (wordFor ws (rowPattern ws start l) s)
 
--- the lanes have the words of a block, for every input and for those of the first b gates that are live
-pub record Block (ws counts lanes : List ℕ) (first b : ℕ) : Type 0 where
-  pub input-words : (s l : ℕ) → s < inputs ws → l < laneCount → HasWord ws lanes first s l
-  pub gate-words : (j l : ℕ) → j < b → 0 < getD counts (inputs ws + j) 0 → l < laneCount → HasWord ws lanes first (inputs ws + j) l
+-- entry l of source s's row is its failure for its pattern
+abbrev pub HasFailure : List ℕ → List ℕ → ℕ → ℕ → ℕ → Type 0
+HasFailure ws rows start s l = rowAt rows s l ≡ failureOf (wordFor ws (rowPattern ws start l) s)
 
--- they have the words of what the outputs read
-abbrev pub OutputLanes : List ℕ → List ℕ → ℕ → Type 0
-OutputLanes ws lanes first = (k l : ℕ) → k < length (outputWords ws) → l < laneCount → HasWord ws lanes first (getD (outputWords ws) k 0) l
+-- there is a row for each source, and those of inputs are 0
+pub record RowsKept (ws rows : List ℕ) : Type 0 where
+  pub long : length rows ≡ rowWords
+  pub sure : InputsSure (inputs ws) rows
 
--- no output's failure passes U in lane l
-abbrev pub OutputsFit : List ℕ → List ℕ → ℕ → Type 0
-OutputsFit ws lanes l = (k : ℕ) → k < length (outputWords ws) → laneWord lanes l (getD (outputWords ws) k 0) / 2 ≤ unitsInOne
+-- the rows have the failures of those of the first b gates that are live
+abbrev pub Block : List ℕ → List ℕ → ℕ → ℕ → Type 0
+Block ws rows start b = (j : ℕ) → j < b → IsLive ws (inputs ws + j) → (l : ℕ) → l < rowLength → HasFailure ws rows start (inputs ws + j) l
+
+-- the rows of all patterns
+abbrev pub rowCount : ℕ
+rowCount = 128
+
+-- a live gate from gate b on that does not tell row `number` from row `held` has its failures for it
+abbrev pub HeldFrom : List ℕ → List ℕ → List ℕ → ℕ → ℕ → ℕ → Type 0
+HeldFrom ws unseen rows held number b =
+    (j : ℕ) → b ≤ j → j < gates ws → IsLive ws (inputs ws + j)
+    → held / 2 ^ getD unseen (inputs ws + j) 0 ≡ number / 2 ^ getD unseen (inputs ws + j) 0
+    → (l : ℕ) → l < rowLength → HasFailure ws rows (rowLength * number) (inputs ws + j) l
+
+abbrev pub RowsHeld : List ℕ → List ℕ → List ℕ → ℕ → Type 0
+RowsHeld ws unseen rows held = (number : ℕ) → number < rowCount → HeldFrom ws unseen rows held number 0
+
+-- a source's failure in entry l as a word
+abbrev pub rowWord : List ℕ → ℕ → ℕ → ℕ
+rowWord rows l s = 2 * rowAt rows s l
+
+-- no output's failure passes U
+abbrev pub OutputsFit : List ℕ → List ℕ → Type 0
+OutputsFit ws rows = (k l : ℕ) → k < length (outputWords ws) → l < rowLength → rowAt rows (getD (outputWords ws) k 0) l ≤ unitsInOne

@@ -160,7 +160,7 @@ fn word_of(last: u32, flip: u32, right: u32) -> u32
 }
 
 // A gate's word where no pin can fail: the right answer, and the flip for its failure.
-pub fn word_none(table: u32, start: u32, flip: u32) -> u32
+fn word_none(table: u32, start: u32, flip: u32) -> u32
     requires { ⌜ (start ≤ 15) × (flip ≤ unitsInOne) ⌝ }
     ensures { λ r. ⌜ r ≡ pinsWord unitsInOne table start [] flip ⌝ }
 {
@@ -168,7 +168,7 @@ pub fn word_none(table: u32, start: u32, flip: u32) -> u32
 }
 
 // A gate's word where the first one, two, three and four pins of the arrays may fail. At the first index every pin is right.
-pub fn word_one(table: u32, start: u32, words: [u32; 4], bits: [u32; 4], flip: u32) -> u32
+fn word_one(table: u32, start: u32, words: [u32; 4], bits: [u32; 4], flip: u32) -> u32
     requires { ⌜ (start + room (firstPins 1 words bits) ≤ 15) × (flip ≤ unitsInOne) ⌝ }
     requires { ⌜ ((i : ℕ) → i < 1 → failureOf (getD words i 0) ≤ unitsInOne) ⌝ }
     ensures { λ r. ⌜ r ≡ pinsWord unitsInOne table start (firstPins 1 words bits) flip ⌝ }
@@ -182,7 +182,7 @@ pub fn word_one(table: u32, start: u32, words: [u32; 4], bits: [u32; 4], flip: u
     word_of(values[0], flip, right)
 }
 
-pub fn word_two(table: u32, start: u32, words: [u32; 4], bits: [u32; 4], flip: u32) -> u32
+fn word_two(table: u32, start: u32, words: [u32; 4], bits: [u32; 4], flip: u32) -> u32
     requires { ⌜ (start + room (firstPins 2 words bits) ≤ 15) × (flip ≤ unitsInOne) ⌝ }
     requires { ⌜ ((i : ℕ) → i < 2 → failureOf (getD words i 0) ≤ unitsInOne) ⌝ }
     ensures { λ r. ⌜ r ≡ pinsWord unitsInOne table start (firstPins 2 words bits) flip ⌝ }
@@ -198,7 +198,7 @@ pub fn word_two(table: u32, start: u32, words: [u32; 4], bits: [u32; 4], flip: u
     word_of(values[0], flip, right)
 }
 
-pub fn word_three(table: u32, start: u32, words: [u32; 4], bits: [u32; 4], flip: u32) -> u32
+fn word_three(table: u32, start: u32, words: [u32; 4], bits: [u32; 4], flip: u32) -> u32
     requires { ⌜ (start + room (firstPins 3 words bits) ≤ 15) × (flip ≤ unitsInOne) ⌝ }
     requires { ⌜ ((i : ℕ) → i < 3 → failureOf (getD words i 0) ≤ unitsInOne) ⌝ }
     ensures { λ r. ⌜ r ≡ pinsWord unitsInOne table start (firstPins 3 words bits) flip ⌝ }
@@ -216,7 +216,7 @@ pub fn word_three(table: u32, start: u32, words: [u32; 4], bits: [u32; 4], flip:
     word_of(values[0], flip, right)
 }
 
-pub fn word_four(table: u32, start: u32, words: [u32; 4], bits: [u32; 4], flip: u32) -> u32
+fn word_four(table: u32, start: u32, words: [u32; 4], bits: [u32; 4], flip: u32) -> u32
     requires { ⌜ (start + room (firstPins 4 words bits) ≤ 15) × (flip ≤ unitsInOne) ⌝ }
     requires { ⌜ ((i : ℕ) → i < 4 → failureOf (getD words i 0) ≤ unitsInOne) ⌝ }
     ensures { λ r. ⌜ r ≡ pinsWord unitsInOne table start (firstPins 4 words bits) flip ⌝ }
@@ -236,7 +236,8 @@ pub fn word_four(table: u32, start: u32, words: [u32; 4], bits: [u32; 4], flip: 
     word_of(values[0], flip, right)
 }
 
-// A gate's word where the first `count` pins may fail, with these words and bits.
+// A gate's word where the first `count` pins may fail, with these words and bits. Three and four are called from two places each: a function that is called
+// from one place becomes a part of its caller, and every gate with fewer such pins would pay for its sixteen values, a tenth of the time of opening.
 pub fn pins_word(
     table: u32,
     start: u32,
@@ -254,7 +255,19 @@ pub fn pins_word(
         0 => word_none(table, start, flip),
         1 => word_one(table, start, words, bits, flip),
         2 => word_two(table, start, words, bits, flip),
-        3 => word_three(table, start, words, bits, flip),
-        _ => word_four(table, start, words, bits, flip),
+        3 => {
+            if flip == 0 {
+                word_three(table, start, words, bits, 0)
+            } else {
+                word_three(table, start, words, bits, flip)
+            }
+        }
+        _ => {
+            if flip == 0 {
+                word_four(table, start, words, bits, 0)
+            } else {
+                word_four(table, start, words, bits, flip)
+            }
+        }
     }
 }

@@ -6,8 +6,9 @@ ghost use Rattle.rounding.specs.Rounding.{unitsInOne, roundDiv, blend};
 // U of document 01: the number of units in 1.
 pub const UNITS_IN_ONE: u64 = 1_073_741_824;
 
-// `sum` divided by `count`, to the nearest whole number: the one place where the code of the figures rounds. Just short of half a count
-// is added, and at an odd quotient the half itself, so that a half goes to the even number; no branch is taken.
+// `sum` divided by `count`, to the nearest whole number. The rows of average (crate rows) have formulas of their own for the same number; all other
+// figures are rounded here. Just short of half a count is added, and at an odd quotient the half itself, so that a half goes to the even number; no
+// branch is taken.
 pub fn rounded(sum: u64, count: u64) -> u64
     requires { ⌜ 0 < count ⌝ }
     requires { ⌜ 2 * sum + 2 * count < 18_446_744_073_709_551_616 ⌝ }

@@ -8,19 +8,18 @@ use native.Mathlib.Nat.{eq-or-lt-of-le}
 use native.Mathlib.Omega.{arith}
 use borrow.Author.Tests.{ltb-true, ltb-false}
 use lib.Dec.{ltb}
-use lib.ListN.{getD, set, take, length-set}
+use lib.ListN.{length, getD, set, take, length-set}
 use lib.Seq.{getD-set-same, getD-set-other}
-use Rattle.lists.specs.Lists.{Below}
 use Rattle.lists.proofs.Every.{map-same}
 use Rattle.figure.specs.Figure.{isOdd, answer}
 use Rattle.netlist.specs.Netlist.{Gate, pinValues}
 use Rattle.netlist.proofs.Values.{right-input, right-gate}
-use Rattle.area.specs.Layout.{mostSources, inputs, gates, pinCount, table, pin, pins, usedPins}
+use Rattle.area.specs.Layout.{mostSources, inputs, gates, pinCount, table, pins, usedPins}
 use Rattle.area.specs.Rules.{NetSound}
 use Rattle.area.specs.Net.{netOf}
 use Rattle.area.proofs.Net.{gate-at, gate-count, sound-pins}
 use Rattle.area.proofs.Words.{used-below, few-sources}
-use Rattle.signals.specs.Signals.{lane, InEachLane, pinLanes, InputWords, rightIn, WordsHold}
+use Rattle.signals.specs.Signals.{laneCount, lane, pinLanes, InputWords, rightIn, WordsHold, WordStored}
 
 -- every pin, used or not, is a source
 pub pin-source : (ws : List ℕ) → NetSound ws → (j : ℕ) → j < gates ws → (i : ℕ) → getD (pins ws j) i 0 < mostSources
@@ -45,29 +44,7 @@ map-map f g (x ∷ xs) = ap (λ (ys : List Bool). f (g x) ∷ ys) (map-map f g x
 pub pins-lanes : (l : ℕ) (F : ℕ → ℕ) (ws : List ℕ) (j : ℕ) → pinLanes l (pinCount ws j) (map F (pins ws j)) ≡ map (λ p. lane l (F p)) (usedPins ws j)
 pins-lanes l F ws j = ap (map (lane l)) (sym (map-take F (pinCount ws j) (pins ws j))) ∙ map-map (lane l) F (usedPins ws j)
 
-pub pins-held : (k : ℕ) (vs : List Bool) (F : ℕ → ℕ) (l : ℕ) (ws : List ℕ) (j : ℕ) → Below k (usedPins ws j)
-    → ((s : ℕ) → s < k → lane l (F s) ≡ getD vs s false)
-    → pinLanes l (pinCount ws j) (map F (pins ws j)) ≡ pinValues vs (usedPins ws j)
-pins-held k vs F l ws j below held =
-    pins-lanes l F ws j ∙ map-same (λ p. lane l (F p)) (λ p. getD vs p false) (usedPins ws j) (λ i h. held (getD (usedPins ws j) i 0) (below i h))
-
--- ---- one source more
-
-pub hold-more : (k : ℕ) (values : ℕ → List Bool) (words : List ℕ) (word : ℕ) → WordsHold k values words → k < mostSources
-    → InEachLane word (λ l. getD (values l) k false) → WordsHold (k + 1) values (set words k word)
-hold-more k values words word h inside here =
-    record {
-      long = length-set words k word ∙ h .long;
-      held =
-          λ l s less below.
-          ⊎-elim
-          (λ e. ap (λ (t : ℕ). lane l (getD (set words k word) t 0)) e
-          ∙ ap (lane l) (getD-set-same words k word 0 (omega (arith, h .long)))
-          ∙ here l less
-          ∙ ap (λ (t : ℕ). getD (values l) t false) (sym e))
-          (λ before. ap (lane l) (getD-set-other words k s word 0 (λ e. omega arith)) ∙ h .held l s less before)
-          (eq-or-lt-of-le {n = s} {m = k} (omega arith));
-    }
+-- ---- one input more
 
 pub input-more : (n : ℕ) (patterns words : List ℕ) (word : ℕ) → InputWords n patterns words → n < mostSources
     → ((l : ℕ) → lane l word ≡ isOdd (getD patterns l 0 / 2 ^ n)) → InputWords (n + 1) patterns (set words n word)
@@ -95,16 +72,32 @@ module _ (ws patterns : List ℕ) (sound : NetSound ws) where
         held = λ l s less below. h .input l s below ∙ sym (right-input (netOf ws [] []) (sound-pins ws [] [] sound) (getD patterns l 0) s below);
       }
 
-  pub gate-held : (words : List ℕ) (word j : ℕ) → j < gates ws → WordsHold (inputs ws + j) (rightIn (netOf ws [] []) patterns) words
-      → InEachLane word (λ l. answer (table ws j) (pinLanes l (pinCount ws j) (map (λ p. getD words p 0) (pins ws j))))
-      → WordsHold (inputs ws + (j + 1)) (rightIn (netOf ws [] []) patterns) (set words (inputs ws + j) word)
-  gate-held words word j inside h answers =
-      let place : inputs ws + j + 1 ≡ inputs ws + (j + 1) = omega arith in
-      let values : ℕ → List Bool = rightIn (netOf ws [] []) patterns in
-      subst (λ (k : ℕ). WordsHold k values (set words (inputs ws + j) word)) place
-      (hold-more (inputs ws + j) values words word h (omega (arith, few-sources ws sound))
-      (λ l less.
-      answers l less
-      ∙ ap (answer (table ws j)) (pins-held (inputs ws + j) (values l) (λ p. getD words p 0) l ws j (used-below ws sound j inside) (λ s. h .held l s less))
-      ∙ ap (λ (g : Gate). answer (g .table) (pinValues (values l) (g .pins))) (sym (gate-at ws [] [] j inside))
-      ∙ sym (right-gate (netOf ws [] []) (sound-pins ws [] [] sound) (getD patterns l 0) j (omega (arith, gate-count ws [] [])))))
+  abbrev values : ℕ → List Bool
+  values = rightIn (netOf ws [] []) patterns
+
+  module _ (words new : List ℕ) (j : ℕ) (inside : j < gates ws) (stored : WordStored ws words new j) where
+    -- a gate's word from pins' words that are right
+    pub gate-right : (l : ℕ) → l < laneCount
+        → ((i : ℕ) → i < length (usedPins ws j) → lane l (getD words (getD (usedPins ws j) i 0) 0) ≡ getD (values l) (getD (usedPins ws j) i 0) false)
+        → lane l (getD new (inputs ws + j) 0) ≡ getD (values l) (inputs ws + j) false
+    gate-right l less held =
+        stored .here l less
+        ∙ ap (answer (table ws j))
+        (pins-lanes l (λ p. getD words p 0) ws j
+        ∙ map-same (λ p. lane l (getD words p 0)) (λ p. getD (values l) p false) (usedPins ws j) held)
+        ∙ ap (λ (g : Gate). answer (g .table) (pinValues (values l) (g .pins))) (sym (gate-at ws [] [] j inside))
+        ∙ sym (right-gate (netOf ws [] []) (sound-pins ws [] [] sound) (getD patterns l 0) j (omega (arith, gate-count ws [] [])))
+
+    -- one gate more
+    pub gate-held : WordsHold (inputs ws + j) values words → WordsHold (inputs ws + (j + 1)) values new
+    gate-held h =
+        record {
+          long = stored .long;
+          held =
+              λ l s less below.
+              ⊎-elim
+              (λ e. subst (λ (t : ℕ). lane l (getD new t 0) ≡ getD (values l) t false) (sym e)
+              (gate-right l less (λ i used. h .held l (getD (usedPins ws j) i 0) less (used-below ws sound j inside i used))))
+              (λ before. ap (lane l) (stored .other s (λ e. omega arith)) ∙ h .held l s less before)
+              (eq-or-lt-of-le {n = s} {m = inputs ws + j} (omega arith));
+        }

@@ -10,7 +10,7 @@ ghost use Rattle.netlist.specs.Seen.{sensitive};
 ghost use Rattle.area.specs.Layout as layout;
 ghost use Rattle.area.specs.Rules.{NetSound};
 ghost use Rattle.area.specs.Net.{netOf};
-ghost use Rattle.signals.specs.Signals.{laneCount, lane, InEachLane, pinLanes, InputWords, rightIn, WordsHold};
+ghost use Rattle.signals.specs.Signals.{laneCount, lane, InEachLane, ByFirst, pinLanes, InputWords, rightIn, WordsHold, WordStored};
 
 // Patterns in a word.
 pub const LANES: usize = 64;
@@ -32,40 +32,41 @@ fn answer_none(table: u32) -> u64
     [0, ALL][(table % 2) as usize]
 }
 
-// The answers of a table with one, two, three and four pins: by the last pin, those of the table's upper half and of its lower half.
-fn answer_one(table: u32, first: u64) -> u64
-    ensures { λ r. ⌜ InEachLane r (λ l. figures.answer table (lane l first ∷ [])) ⌝ }
+// The answers of a table with one, two, three and four pins: by the last pin, those of the table's upper half and of its lower half. `by` has what a table
+// with one pin can answer: never, the pin inverted, the pin, always.
+fn answer_one(table: u32, by: &[u64; 4]) -> u64
+    requires { ⌜ ByFirst (now by) ⌝ }
+    ensures { λ r. ⌜ InEachLane r (λ l. figures.answer table (lane l (getD (now (by .entry)) 2 0) ∷ [])) ⌝ }
 {
-    [0, first ^ ALL, first, ALL][(table % 4) as usize]
+    by[(table % 4) as usize]
 }
 
-fn answer_two(table: u32, first: u64, second: u64) -> u64
-    ensures { λ r. ⌜ InEachLane r (λ l. figures.answer table (lane l first ∷ lane l second ∷ [])) ⌝ }
+fn answer_two(table: u32, by: &[u64; 4], second: u64) -> u64
+    requires { ⌜ ByFirst (now by) ⌝ }
+    ensures { λ r. ⌜ InEachLane r (λ l. figures.answer table (lane l (getD (now (by .entry)) 2 0) ∷ lane l second ∷ [])) ⌝ }
 {
-    select(
-        second,
-        answer_one(table >> 2, first),
-        answer_one(table, first),
-    )
+    select(second, answer_one(table >> 2, by), answer_one(table, by))
 }
 
-fn answer_three(table: u32, first: u64, second: u64, third: u64) -> u64
-    ensures { λ r. ⌜ InEachLane r (λ l. figures.answer table (lane l first ∷ lane l second ∷ lane l third ∷ [])) ⌝ }
+fn answer_three(table: u32, by: &[u64; 4], second: u64, third: u64) -> u64
+    requires { ⌜ ByFirst (now by) ⌝ }
+    ensures { λ r. ⌜ InEachLane r (λ l. figures.answer table (lane l (getD (now (by .entry)) 2 0) ∷ lane l second ∷ lane l third ∷ [])) ⌝ }
 {
     select(
         third,
-        answer_two(table >> 4, first, second),
-        answer_two(table, first, second),
+        answer_two(table >> 4, by, second),
+        answer_two(table, by, second),
     )
 }
 
-fn answer_four(table: u32, first: u64, second: u64, third: u64, fourth: u64) -> u64
-    ensures { λ r. ⌜ InEachLane r (λ l. figures.answer table (lane l first ∷ lane l second ∷ lane l third ∷ lane l fourth ∷ [])) ⌝ }
+fn answer_four(table: u32, by: &[u64; 4], second: u64, third: u64, fourth: u64) -> u64
+    requires { ⌜ ByFirst (now by) ⌝ }
+    ensures { λ r. ⌜ InEachLane r (λ l. figures.answer table (lane l (getD (now (by .entry)) 2 0) ∷ lane l second ∷ lane l third ∷ lane l fourth ∷ [])) ⌝ }
 {
     select(
         fourth,
-        answer_three(table >> 8, first, second, third),
-        answer_three(table, first, second, third),
+        answer_three(table >> 8, by, second, third),
+        answer_three(table, by, second, third),
     )
 }
 
@@ -74,12 +75,13 @@ pub fn answer(table: u32, count: usize, pins: [u64; area::MOST_PINS]) -> u64
     requires { ⌜ count ≤ layout.mostPins ⌝ }
     ensures { λ r. ⌜ InEachLane r (λ l. figures.answer table (pinLanes l count pins)) ⌝ }
 {
+    let by = [0, pins[0] ^ ALL, pins[0], ALL];
     match count {
         0 => answer_none(table),
-        1 => answer_one(table, pins[0]),
-        2 => answer_two(table, pins[0], pins[1]),
-        3 => answer_three(table, pins[0], pins[1], pins[2]),
-        _ => answer_four(table, pins[0], pins[1], pins[2], pins[3]),
+        1 => answer_one(table, &by),
+        2 => answer_two(table, &by, pins[1]),
+        3 => answer_three(table, &by, pins[1], pins[2]),
+        _ => answer_four(table, &by, pins[1], pins[2], pins[3]),
     }
 }
 
@@ -115,7 +117,7 @@ fn input_word(patterns: &[u32], input: usize) -> u64
 }
 
 // The words of all inputs.
-fn input_words(patterns: &[u32], inputs: usize) -> [u64; area::MOST_SOURCES]
+pub fn input_words(patterns: &[u32], inputs: usize) -> [u64; area::MOST_SOURCES]
     requires { ⌜ (length (now patterns) ≤ laneCount) × (inputs ≤ layout.mostInputs) ⌝ }
     ensures { λ r. ⌜ InputWords inputs (now (patterns .entry)) r ⌝ }
 {
@@ -166,19 +168,27 @@ pub fn gate_answer(area: &[u32], gate: usize, pins: [u64; 4]) -> u64
     answer(area::table(area, gate), area::pin_count(area, gate), pins)
 }
 
+// A gate's word worked out from its pins' words.
+pub fn work_word(words: &mut [u64; area::MOST_SOURCES], area: &[u32], gate: usize)
+    requires { ⌜ NetSound (now area) × (gate < layout.gates (now area)) × (length (now words) ≡ layout.mostSources) ⌝ }
+    ensures { λ _. ⌜ WordStored (now (area .entry)) (now (words .entry)) (now (words .exit)) gate ⌝ }
+{
+    let pins = pin_words(words, area, gate);
+    let source = area::inputs(area) + gate;
+    words[source] = gate_answer(area, gate, pins);
+}
+
 // The right values of all sources under at most 64 listed patterns.
 pub fn right_words(area: &[u32], patterns: &[u32]) -> [u64; area::MOST_SOURCES]
     requires { ⌜ NetSound (now area) × (length (now patterns) ≤ laneCount) ⌝ }
     ensures { λ r. ⌜ WordsHold (layout.inputs (now (area .entry)) + layout.gates (now (area .entry)))
         (rightIn (netOf (now (area .entry)) [] []) (now (patterns .entry))) r ⌝ }
 {
-    let inputs = area::inputs(area);
     let gates = area::gates(area);
-    let mut words = input_words(patterns, inputs);
+    let mut words = input_words(patterns, area::inputs(area));
     let mut gate = 0;
     while gate < gates {
-        let pins = pin_words(&words, area, gate);
-        words[inputs + gate] = gate_answer(area, gate, pins);
+        work_word(&mut words, area, gate);
         gate += 1;
     }
     words

@@ -1,9 +1,8 @@
 -- `average::judge_weights` meets its contract: each test that fails decides, in the order of the refusal. Assumes nothing.
-use Prim.Native.Nat.{ℕ, _*_, _%_, _^_, _≤_}
+use Prim.Native.Nat.{ℕ, _^_}
 use mathlib.Core.Bool.{Bool, true, false, not}
 use mathlib.Core.List.{List}
-use mathlib.Core.Path.{_≡_, sym, ap, _∙_}
-use native.Mathlib.Nat.{one-mul, mod-eq-of-lt}
+use mathlib.Core.Path.{_≡_, sym, _∙_}
 use native.Mathlib.Omega.{arith}
 use borrow.Author.Needs.{needs}
 use borrow.Author.Tests.{eq-eqb, ne-eqb}
@@ -16,12 +15,9 @@ use Rattle.refusal.specs.Judgement.{refuseUnless, otherwise, lowest}
 use Rattle.refusal.proofs.Laws.{otherwise-first}
 use Rattle.area.specs.Layout.{mostInputs}
 use Rattle.calls.specs.Judgements.{weightJudgement, weightsJudgement}
+use Rattle.average.proofs.Patterns.{shifted}
 use Rattle.average.proofs.judge_weights.Statement.{statement}
 use Rattle.average.proofs.judge_weights.Tie as tie
-
--- 1 shifted by n as the machine has it
-shifted : (n : ℕ) → n ≤ mostInputs → 1 * 2 ^ n % 2 ^ 64 ≡ 2 ^ n
-shifted n h = ap (λ (x : ℕ). x % 2 ^ 64) (one-mul (2 ^ n)) ∙ mod-eq-of-lt (omega (arith, pow-mono {i = n} {j = mostInputs} h))
 
 module _ (n : ℕ) (weights : List ℕ) where
   wrong-length : (length weights ≡ 2 ^ n → ⊥) → weightsJudgement n weights ≡ Refused 12 0

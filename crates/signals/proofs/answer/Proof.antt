@@ -18,34 +18,32 @@ module _ (s : tie.Start) where
   listed l k = ap (answer (s .args .table)) (lanes-of l k (s .args .t3) (s .good .1 .1 .0 .1 .0 .1))
 
 returns-2 : tie.Need-returns-2
-returns-2 c l less = rw (c .before .match .keys2) (c .answer-one .ensures l less ∙ listed (c .before .before) l 1)
+returns-2 c l less = rw (c .before .before .match .keys2) (c .answer-one .ensures l less ∙ listed (c .before .before .before) l 1)
 
 returns-3 : tie.Need-returns-3
-returns-3 c l less = rw (c .before .match .keys3) (c .answer-two .ensures l less ∙ listed (c .before .before) l 2)
+returns-3 c l less = rw (c .before .before .match .keys3) (c .answer-two .ensures l less ∙ listed (c .before .before .before) l 2)
 
 returns-4 : tie.Need-returns-4
-returns-4 c l less = rw (c .before .match .keys4) (c .answer-three .ensures l less ∙ listed (c .before .before) l 3)
+returns-4 c l less = rw (c .before .before .match .keys4) (c .answer-three .ensures l less ∙ listed (c .before .before .before) l 3)
 
 returns-5 : tie.Need-returns-5
 returns-5 c l less =
-    let all : c .before .before .args .count ≡ 4 = omega arith in
-    rw all (c .answer-four .ensures l less ∙ listed (c .before .before) l 4)
+    let all : c .before .before .before .args .count ≡ 4 = omega arith in
+    rw all (c .answer-four .ensures l less ∙ listed (c .before .before .before) l 4)
 
 pub answer-spec : {M : Type 1} → statement M
 answer-spec =
     tie.close
     (tie.spec
+    (λ c. search needs)
+    (λ c. search needs)
+    (λ c κs. search needs)
     (λ c κs. search needs)
     (λ c. search needs)
     (λ c κs. search needs)
     (λ c. search needs)
     (λ c. search needs)
     (λ c κs. search needs)
-    (λ c. search needs)
-    (λ c. search needs)
-    (λ c. search needs)
-    (λ c κs. search needs)
-    (λ c. search needs)
     (λ c. search needs)
     (λ c. search needs)
     (λ c. search needs)

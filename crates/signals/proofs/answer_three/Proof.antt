@@ -2,6 +2,7 @@
 use mathlib.Core.List.{[], _∷_}
 use mathlib.Core.Path.{_∙_}
 use borrow.Author.Needs.{needs}
+use lib.ListN.{getD}
 use Rattle.signals.specs.Signals.{lane}
 use Rattle.signals.proofs.Answers.{by-last}
 use Rattle.signals.proofs.answer_three.Statement.{statement}
@@ -11,7 +12,7 @@ returns : tie.Need-returns
 returns c l less =
     let a = c .before .before .before .args in
     c .select .ensures l less
-    ∙ by-last (a .table) (lane l (a .first) ∷ lane l (a .second) ∷ []) (lane l (a .third))
+    ∙ by-last (a .table) (lane l (getD (a .by .now) 2 0) ∷ lane l (a .second) ∷ []) (lane l (a .third))
     (c .before .before .answer-two .ensures l less)
     (c .before .answer-two2 .ensures l less)
 

@@ -7,82 +7,56 @@ use native.Mathlib.Omega.{arith}
 use borrow.Author.Needs.{needs}
 use Rattle.area.specs.Layout as layout
 use Rattle.area.specs.Net.{netOf}
-use Rattle.area.proofs.Words.{few-sources}
 use Rattle.signals.specs.Signals.{rightIn, WordsHold}
 use Rattle.signals.proofs.Held.{first-held, gate-held}
 use Rattle.signals.proofs.right_words.Statement.{statement}
 use Rattle.signals.proofs.right_words.Tie as tie
 
 abbrev Inv-loop : tie.InvT-loop
-Inv-loop area patterns inputs gates words₀ gate₀ words gate =
-    (gate ≤ gates) × WordsHold (layout.inputs area + gate) (rightIn (netOf area [] []) patterns) words
+Inv-loop area patterns gates words₀ gate₀ words gate = (gate ≤ gates) × WordsHold (layout.inputs area + gate) (rightIn (netOf area [] []) patterns) words
 
 abbrev μ-loop : tie.MeasureT-loop
-μ-loop area patterns inputs gates words₀ gate₀ words gate = gates - gate
+μ-loop area patterns gates words₀ gate₀ words gate = gates - gate
 
 input-words-requires : tie.Need-input-words-requires Inv-loop μ-loop
 input-words-requires c κs =
     let s = c .before .before .before .before in
-    (s .pre .1, omega (arith, c .before .inputs .ensures, s .pre .0 .inputs-fit))
+    (s .pre .1, omega (arith, c .inputs .ensures, s .pre .0 .inputs-fit))
 
 loop-holds : tie.Need-loop-holds Inv-loop μ-loop
 loop-holds c =
     let s = c .before .before .before .before .before in
     let a = s .args in
     let ws = a .area .now in
-    let start = first-held ws (a .patterns .now) (s .pre .0) (c .input-words .result) (rw (c .before .before .inputs .ensures) at (c .input-words .ensures)) in
+    let start = first-held ws (a .patterns .now) (s .pre .0) (c .input-words .result) (rw (c .before .inputs .ensures) at (c .input-words .ensures)) in
     (omega arith, rw (add-zero (layout.inputs ws)) start)
 
-pin-words-requires : tie.Need-pin-words-requires Inv-loop μ-loop
-pin-words-requires c κs =
-    let s = c .before .before .before .before .before .before .before .before in
-    let at-gates = c .before .before .before .before .gates in
-    (s .pre .0, omega (arith, at-gates .ensures))
+-- a turn's gate
+module _ (c : tie.In-loop Inv-loop μ-loop) where
+  abbrev s : tie.Start Inv-loop μ-loop
+  s = c .before .before .before .before .before .before .before
 
-gate-answer-requires : tie.Need-gate-answer-requires Inv-loop μ-loop
-gate-answer-requires c κs =
-    let s = c .before .before .before .before .before .before .before .before .before in
-    let at-gates = c .before .before .before .before .before .gates in
-    (s .pre .0, omega (arith, at-gates .ensures))
+  inside : c .before .loop .gate < layout.gates (s .args .area .now)
+  inside = omega (arith, c .before .before .before .before .gates .ensures)
 
--- a gate's source has a word
-module _ (c : tie.After-gate-answer Inv-loop μ-loop) where
-  source-inside : c .before .before .before .before .before .before .before .inputs .result + c .before .before .before .before .loop .gate < layout.mostSources
-  source-inside =
-      let s = c .before .before .before .before .before .before .before .before .before .before in
-      let at-inputs = c .before .before .before .before .before .before .before .inputs in
-      let at-gates = c .before .before .before .before .before .before .gates in
-      omega (arith, at-gates .ensures, at-inputs .ensures, few-sources (s .args .area .now) (s .pre .0))
-
-add-words : tie.Need-add-words Inv-loop μ-loop
-add-words c = omega (arith, source-inside c)
-
-mul-words : tie.Need-mul-words Inv-loop μ-loop
-mul-words c = omega (arith, source-inside c)
-
-array-write-words : tie.Need-array-write-words Inv-loop μ-loop
-array-write-words c = omega (arith, source-inside c)
+work-word-requires : tie.Need-work-word-requires Inv-loop μ-loop
+work-word-requires c κs =
+    let t = c .before in
+    (s t .pre .0, inside t, t .before .loop .inv .1 .long)
 
 loop-again : tie.Need-loop-again Inv-loop μ-loop
 loop-again c =
-    let s = c .before .before .before .before .before .before .before .before .before .before in
-    let at-inputs = c .before .before .before .before .before .before .before .inputs in
-    let at-gates = c .before .before .before .before .before .before .gates in
-    let l = c .before .before .before .before .loop in
-    let a = s .args in
-    let ws = a .area .now in
-    let inside : l .gate < layout.gates ws = omega (arith, at-gates .ensures) in
-    let answers = rw (c .before .pin-words .ensures) at (c .gate-answer .ensures) in
-    let worked = gate-held ws (a .patterns .now) (s .pre .0) (l .words) (c .gate-answer .result) (l .gate) inside (l .inv .1) answers in
-    (omega arith, rw (at-inputs .ensures) worked)
+    let t = c .before .before in
+    let l = t .before .loop in
+    let a = s t .args in
+    (omega arith, gate-held (a .area .now) (a .patterns .now) (s t .pre .0) (l .words) _ (l .gate) (inside t) (c .work-word .ensures) (l .inv .1))
 
 returns : tie.Need-returns Inv-loop μ-loop
 returns c =
     let s = c .before .before .before .before .before .before .before in
-    let at-gates = c .before .before .before .gates in
+    let at-gates = c .before .before .before .before .gates in
     let l = c .before .loop in
-    let ws = s .args .area .now in
-    let end : l .gate ≡ layout.gates ws = omega (arith, at-gates .ensures) in
+    let end : l .gate ≡ layout.gates (s .args .area .now) = omega (arith, at-gates .ensures) in
     rw end at (l .inv .1)
 
 pub right-words-spec : {M : Type 1} → statement M
@@ -95,11 +69,7 @@ right-words-spec =
     (λ c κs. search needs)
     input-words-requires
     loop-holds
-    pin-words-requires
-    gate-answer-requires
-    add-words
-    mul-words
-    array-write-words
+    work-word-requires
     (λ c. search needs)
     (λ c. search needs)
     loop-again
