@@ -16,7 +16,7 @@ use Rattle.area.specs.Rules.{NetSound}
 use Rattle.area.specs.Figures.{gateWordFrom}
 use Rattle.area.proofs.Words.{used-count, used-pin, used-below}
 use Rattle.rows.specs.Rows.{rowLength}
-use Rattle.rows.proofs.Means.{low-bit}
+use Rattle.rows.proofs.Lanes.{low-bit}
 use Rattle.plan.specs.Plan.{rowInputs, rowBits, Unseen}
 use Rattle.average.specs.Blocks.{wordFor, rowPattern, rowCount, Block, RowsHeld}
 use Rattle.average.proofs.BlockWords.{word-input, word-gate}

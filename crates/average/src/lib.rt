@@ -75,7 +75,7 @@ fn reliability_row(rows: &[u32; rows::ROW_WORDS], area: &[u32]) -> [u32; rows::L
     ensures { λ r. ⌜ RowFits r ⌝ }
 {
     let count = area::outputs(area);
-    let mut row = [rounding::UNITS_IN_ONE as u32; rows::LANES];
+    let mut row = [rounding::ONE; rows::LANES];
     let mut k = 0;
     while k < count {
         let source = area::index(area::output(area, k));

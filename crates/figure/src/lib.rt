@@ -11,9 +11,6 @@ ghost use Rattle.rounding.specs.Rounding.{unitsInOne, blend};
 ghost use Rattle.figure.specs.Figure.{failureOf, foldStep, gateStep, outputStep};
 ghost use Rattle.figure.specs.Steps.{firstPins, room, spreadPin, differs, NoneOrAll, pinsWord};
 
-// U in 32 bits: no value of the fold passes it.
-const ONE: u32 = rounding::UNITS_IN_ONE as u32;
-
 // Each of the first `used` indices becomes two: the pin right, the pin wrong. The pin adds its bit to an index where its value is 1.
 fn spread_pin(
     indices: [u32; 16],
@@ -56,7 +53,7 @@ fn difference(table: u32, right: u32, index: u32) -> u32
     if answer_at(table, index) == right {
         0
     } else {
-        ONE
+        rounding::ONE
     }
 }
 
@@ -84,7 +81,7 @@ fn first_pair(right: u32, wrong: u32, failure: u32) -> u32
     requires { ⌜ failure ≤ unitsInOne ⌝ }
     ensures { λ r. ⌜ r ≡ blend unitsInOne right wrong failure ⌝ }
 {
-    right / ONE * (ONE - failure) + wrong / ONE * failure
+    right / rounding::ONE * (rounding::ONE - failure) + wrong / rounding::ONE * failure
 }
 
 // Step 2 of the figures for the pin that is folded first, on the first 2 × half values of step 1: each pair becomes one, and half as many
@@ -105,16 +102,6 @@ fn fold_first(values: [u32; 16], half: usize, words: &[u32; 4], pin: usize) -> [
     values
 }
 
-// A pair of a later step, made one value: the mean. No value passes U, so 32 bits hold it; 64 are for the products.
-fn fold_pair(right: u32, wrong: u32, failure: u32) -> u32
-    requires { ⌜ right ≤ unitsInOne ⌝ }
-    requires { ⌜ wrong ≤ unitsInOne ⌝ }
-    requires { ⌜ failure ≤ unitsInOne ⌝ }
-    ensures { λ r. ⌜ r ≡ blend unitsInOne right wrong failure ⌝ }
-{
-    rounding::blended(right as u64, wrong as u64, failure as u64) as u32
-}
-
 // Step 2 of the figures for a later pin: of the first 2 × half values each pair becomes one, and half as many are in use.
 fn fold_step(values: [u32; 16], half: usize, words: &[u32; 4], pin: usize) -> [u32; 16]
     requires { ⌜ (half ≤ 8) × (pin < 4) × (failureOf (getD (now words) pin 0) ≤ unitsInOne) ⌝ }
@@ -126,25 +113,23 @@ fn fold_step(values: [u32; 16], half: usize, words: &[u32; 4], pin: usize) -> [u
     let mut values = values;
     let mut i = 0;
     while i < half {
-        values[i] = fold_pair(values[2 * i], values[2 * i + 1], failure);
+        values[i] = rounding::blended(values[2 * i], values[2 * i + 1], failure);
         i += 1;
     }
     values
 }
 
 // Step 3 of the figures, the gate step: from the last value and the flip.
-fn gate_step(last: u64, flip: u64) -> u64
-    requires { ⌜ last ≤ unitsInOne ⌝ }
-    requires { ⌜ flip ≤ unitsInOne ⌝ }
+pub fn gate_step(last: u32, flip: u32) -> u32
+    requires { ⌜ (last ≤ unitsInOne) × (flip ≤ unitsInOne) ⌝ }
     ensures { λ r. ⌜ r ≡ gateStep unitsInOne last flip ⌝ }
 {
-    rounding::blended(last, rounding::UNITS_IN_ONE - last, flip)
+    rounding::blended_rest(last, flip)
 }
 
 // The output product: the reliability after one more output whose failure is given.
-pub fn output_step(reliability: u64, failure: u64) -> u64
-    requires { ⌜ reliability ≤ unitsInOne ⌝ }
-    requires { ⌜ failure ≤ unitsInOne ⌝ }
+pub fn output_step(reliability: u32, failure: u32) -> u32
+    requires { ⌜ (reliability ≤ unitsInOne) × (failure ≤ unitsInOne) ⌝ }
     ensures { λ r. ⌜ r ≡ outputStep unitsInOne reliability failure ⌝ }
 {
     rounding::blended(reliability, 0, failure)
@@ -155,8 +140,7 @@ fn word_of(last: u32, flip: u32, right: u32) -> u32
     requires { ⌜ (last ≤ unitsInOne) × (flip ≤ unitsInOne) × (right ≤ 1) ⌝ }
     ensures { λ r. ⌜ r ≡ 2 * gateStep unitsInOne last flip + right ⌝ }
 {
-    let failure = gate_step(last as u64, flip as u64);
-    2 * (failure as u32) + right
+    2 * gate_step(last, flip) + right
 }
 
 // A gate's word where no pin can fail: the right answer, and the flip for its failure.

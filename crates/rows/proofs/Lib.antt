@@ -1,3 +1,3 @@
 pub mod Exact
 pub mod Fill
-pub mod Means
+pub mod Lanes

@@ -13,40 +13,17 @@ pub const LANES: usize = 32;
 
 pub const ROW_WORDS: usize = LANES * area::MOST_SOURCES;
 
-// U, in the width of a row's entries, and U / 2.
-const UNITS: u32 = 1_073_741_824;
-
-const HALF: u64 = 536_870_912;
-
-// The mean of two figures: a half goes to the even number, by one division. Factors that are 32-bit numbers, widened as they stand, are multiplied
-// several at a time.
-fn mean(right: u32, wrong: u32, failure: u32) -> u32
-    requires { ⌜ (right ≤ unitsInOne) × (wrong ≤ unitsInOne) × (failure ≤ unitsInOne) ⌝ }
-    ensures { λ r. ⌜ r ≡ blend unitsInOne right wrong failure ⌝ }
-{
-    let sum = right as u64 * (UNITS - failure) as u64 + wrong as u64 * failure as u64;
-    ((sum + (HALF - 1) + sum / rounding::UNITS_IN_ONE % 2) / rounding::UNITS_IN_ONE) as u32
-}
-
-// The gate step: m × (U - p) + (U - m) × p is (m + p) × U - 2 × m × p, one product. What is taken off, m × p of U / 2, is rounded up at a half; where it
-// is a half and leaves an odd number, one is put back.
-fn gate_mean(last: u32, flip: u32) -> u32
-    requires { ⌜ (last ≤ unitsInOne) × (flip ≤ unitsInOne) ⌝ }
-    ensures { λ r. ⌜ r ≡ gateStep unitsInOne last flip ⌝ }
-{
-    let product = last as u64 * flip as u64 + HALF / 2;
-    let near = last + flip - (product / HALF) as u32;
-    let half = (UNITS / 2 - (product % HALF) as u32) / (UNITS / 2);
-    near + (half + near % 2) / 2
-}
-
 // The mean of two start values, each U or 0: nothing is rounded.
 fn first_mean(right: bool, wrong: bool, failure: u32) -> u32
     requires { ⌜ failure ≤ unitsInOne ⌝ }
     ensures { λ r. ⌜ r ≡ blend unitsInOne (valueIf right) (valueIf wrong) failure ⌝ }
 {
     if right {
-        if wrong { UNITS } else { UNITS - failure }
+        if wrong {
+            rounding::ONE
+        } else {
+            rounding::ONE - failure
+        }
     } else {
         if wrong { failure } else { 0 }
     }
@@ -88,7 +65,7 @@ pub fn fold_row(right: [u32; LANES], wrong: [u32; LANES], failures: [u32; LANES]
     let mut row = [0u32; LANES];
     let mut l = 0;
     while l < LANES {
-        row[l] = mean(right[l], wrong[l], failures[l]);
+        row[l] = rounding::blended(right[l], wrong[l], failures[l]);
         l += 1;
     }
     row
@@ -102,7 +79,7 @@ pub fn gate_row(last: [u32; LANES], flip: u32) -> [u32; LANES]
     let mut row = [0u32; LANES];
     let mut l = 0;
     while l < LANES {
-        row[l] = gate_mean(last[l], flip);
+        row[l] = figure::gate_step(last[l], flip);
         l += 1;
     }
     row
@@ -117,7 +94,7 @@ pub fn output_row(reliability: [u32; LANES], rows: &[u32; ROW_WORDS], source: us
     let mut row = [0u32; LANES];
     let mut l = 0;
     while l < LANES {
-        row[l] = mean(reliability[l], 0, rows[LANES * source + l]);
+        row[l] = figure::output_step(reliability[l], rows[LANES * source + l]);
         l += 1;
     }
     row

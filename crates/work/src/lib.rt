@@ -117,14 +117,14 @@ fn reliability_now(area: &[u32]) -> u32
 {
     let start = area::outputs_index(area::gates(area));
     let count = area::outputs(area);
-    let mut reliability = rounding::UNITS_IN_ONE;
+    let mut reliability = rounding::ONE;
     let mut k = 0;
     while k < count {
         let word = source_word(area, area::index(area[start + k]));
-        reliability = figure::output_step(reliability, (word / 2) as u64);
+        reliability = figure::output_step(reliability, word / 2);
         k += 1;
     }
-    reliability as u32
+    reliability
 }
 
 fn work_reliability(area: &mut [u32])

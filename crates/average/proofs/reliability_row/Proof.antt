@@ -122,7 +122,6 @@ reliability-row-spec =
     Inv-loop
     μ-loop
     outputs-requires
-    (λ c. search needs)
     loop-holds
     output-requires
     (λ c κs. search needs)

@@ -16,17 +16,18 @@ abbrev μ-loop : tie.MeasureT-loop
 μ-loop half words pin failure values₀ i₀ values i =
     half - i
 
-fold-pair-requires : tie.Need-fold-pair-requires Inv-loop μ-loop
-fold-pair-requires c κs =
+blended-requires : tie.Need-blended-requires Inv-loop μ-loop
+blended-requires c κs =
     let i = c .before .loop .i in
     let s = c .before .loop .inv .1 in
     let fits = c .before .before .before .pre .1 in (
       rw (s .rest (2 * i) (omega arith)) (fits (2 * i) (omega arith)),
-      (rw (s .rest (2 * i + 1) (omega arith)) (fits (2 * i + 1) (omega arith)), c .before .before .before .pre .0 .2),
+      rw (s .rest (2 * i + 1) (omega arith)) (fits (2 * i + 1) (omega arith)),
+      c .before .before .before .pre .0 .2,
     )
 
 loop-again : tie.Need-loop-again Inv-loop μ-loop
-loop-again c = (omega arith, rw (c .fold-pair .ensures) (turn (c .before .before .loop .inv .1) (omega arith)))
+loop-again c = (omega arith, rw (c .blended .ensures) (turn (c .before .before .loop .inv .1) (omega arith)))
 
 returns : tie.Need-returns Inv-loop μ-loop
 returns c =
@@ -50,7 +51,7 @@ fold-step-spec =
     (λ c. search needs)
     (λ c. search needs)
     (λ c. search needs)
-    fold-pair-requires
+    blended-requires
     (λ c. search needs)
     (λ c. search needs)
     (λ c. search needs)

@@ -8,4 +8,4 @@ unfolding gateStep
 returns c = search needs
 
 pub gate-step-spec : {M : Type 1} → statement M
-gate-step-spec = tie.close (tie.spec (λ c. search needs) (λ c κs. search needs) returns)
+gate-step-spec = tie.close (tie.spec (λ c κs. search needs) returns)

@@ -12,9 +12,6 @@ failure-fits c =
     let fits = c .before .pre in
     rw (c .gate-step .ensures) (gate-step-at-most unitsInOne (omega arith) _ _ (fits .0) (fits .1))
 
-cast-result : tie.Need-cast-result
-cast-result c = omega (arith, failure-fits c)
-
 mul-result : tie.Need-mul-result
 mul-result c = omega (arith, failure-fits c)
 
@@ -22,4 +19,4 @@ add-result : tie.Need-add-result
 add-result c = omega (arith, failure-fits c)
 
 pub word-of-spec : {M : Type 1} → statement M
-word-of-spec = tie.close (tie.spec (λ c κs. search needs) cast-result mul-result add-result (λ c. search needs))
+word-of-spec = tie.close (tie.spec (λ c κs. search needs) mul-result add-result (λ c. search needs))

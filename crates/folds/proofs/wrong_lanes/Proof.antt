@@ -10,7 +10,7 @@ use Rattle.figure.specs.Figure.{answer, invertIf}
 use Rattle.signals.proofs.Answers.{differs}
 use Rattle.signals.proofs.Lanes.{lane-xor}
 use Rattle.signals.specs.Signals.{lane, pinLanes}
-use Rattle.rows.proofs.Means.{half-lane}
+use Rattle.rows.proofs.Lanes.{half-lane}
 use Rattle.folds.proofs.wrong_lanes.Statement.{statement}
 use Rattle.folds.proofs.wrong_lanes.Tie as tie
 

@@ -1,34 +1,60 @@
--- `rounding::blended` meets its contract: each product is at most U times U, so the division has room. Assumes nothing.
-use Prim.Native.Nat.{_-_, _*_, _≤_}
-use native.Mathlib.Nat.{mul-le-mul}
+-- `rounding::blended` meets its contract. Assumes nothing.
+use Prim.Native.Nat.{ℕ, _+_, _-_, _*_, _≤_}
+use mathlib.Core.Path.{sym}
 use native.Mathlib.Omega.{arith}
 use borrow.Author.Needs.{needs}
 use Rattle.rounding.specs.Rounding.{unitsInOne, blend}
+use Rattle.rounding.proofs.Means.{sum-fits, mean-made}
 use Rattle.rounding.proofs.blended.Statement.{statement}
 use Rattle.rounding.proofs.blended.Tie as tie
 
--- each of the two products is at most U times U
-first : (c : tie.Start) → c .args .right * (unitsInOne - c .args .failure) ≤ unitsInOne * unitsInOne
-first c = mul-le-mul {n₂ = unitsInOne} {m₂ = unitsInOne} (c .pre .0) (omega arith)
+-- the sum of the products fits
+module _ (s : tie.Start) where
+  abbrev right : ℕ
+  right = s .args .right
 
-second : (c : tie.Start) → c .args .wrong * c .args .failure ≤ unitsInOne * unitsInOne
-second c = mul-le-mul {n₂ = unitsInOne} {m₂ = unitsInOne} (c .pre .1 .0) (c .pre .1 .1)
+  abbrev wrong : ℕ
+  wrong = s .args .wrong
 
-mul-rounded : tie.Need-mul-rounded
-mul-rounded c = omega (arith, first c)
+  abbrev failure : ℕ
+  failure = s .args .failure
 
-mul-rounded-2 : tie.Need-mul-rounded-2
-mul-rounded-2 c = omega (arith, second c)
+  sum : right * (unitsInOne - failure) + wrong * failure ≤ unitsInOne * unitsInOne
+  sum = sum-fits right wrong failure (s .pre .0) (s .pre .1) (s .pre .2)
 
-add-rounded : tie.Need-add-rounded
-add-rounded c = omega (arith, first c, second c)
+mul-sum : tie.Need-mul-sum
+mul-sum c = omega (arith, sum c)
 
-rounded-requires : tie.Need-rounded-requires
-rounded-requires c κs = (omega arith, omega (arith, first c, second c))
+mul-sum-2 : tie.Need-mul-sum-2
+mul-sum-2 c = omega (arith, sum c)
+
+add-sum : tie.Need-add-sum
+add-sum c = omega (arith, sum c)
+
+add-result : tie.Need-add-result
+add-result c = omega (arith, sum c)
+
+add-result-2 : tie.Need-add-result-2
+add-result-2 c = omega (arith, sum c)
+
+cast-result : tie.Need-cast-result
+cast-result c = omega (arith, sum c)
 
 returns : tie.Need-returns
 unfolding blend
-returns c = c .rounded .ensures
+returns c = sym (mean-made (right c * (unitsInOne - failure c) + wrong c * failure c))
 
 pub blended-spec : {M : Type 1} → statement M
-blended-spec = tie.close (tie.spec (λ c. search needs) mul-rounded mul-rounded-2 add-rounded rounded-requires returns)
+blended-spec =
+    tie.close
+    (tie.spec
+    (λ c. search needs)
+    (λ c. search needs)
+    mul-sum
+    mul-sum-2
+    add-sum
+    (λ c. search needs)
+    add-result
+    add-result-2
+    cast-result
+    returns)

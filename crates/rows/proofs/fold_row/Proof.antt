@@ -21,8 +21,8 @@ abbrev μ-loop : tie.MeasureT-loop
 loop-holds : tie.Need-loop-holds Inv-loop μ-loop
 loop-holds c = (omega arith, refl, below-none _)
 
-mean-requires : tie.Need-mean-requires Inv-loop μ-loop
-mean-requires c κs =
+blended-requires : tie.Need-blended-requires Inv-loop μ-loop
+blended-requires c κs =
     let l = c .before .loop .l in
     let less = c .loop-test .taken in
     (c .before .before .pre .0 l less, c .before .before .pre .1 l less, c .before .before .pre .2 l less)
@@ -30,7 +30,7 @@ mean-requires c κs =
 loop-again : tie.Need-loop-again Inv-loop μ-loop
 loop-again c =
     let l = c .before .before .loop in
-    fill-turn rowLength _ (l .row) (l .l) _ (l .inv) (omega arith) (c .mean .ensures)
+    fill-turn rowLength _ (l .row) (l .l) _ (l .inv) (omega arith) (c .blended .ensures)
 
 returns : tie.Need-returns Inv-loop μ-loop
 returns c l less = c .before .loop .inv .2 l (omega arith)
@@ -48,7 +48,7 @@ fold-row-spec =
     (λ c. search needs)
     (λ c. search needs)
     (λ c. search needs)
-    mean-requires
+    blended-requires
     (λ c. search needs)
     (λ c. search needs)
     (λ c. search needs)

@@ -22,13 +22,13 @@ abbrev μ-loop : tie.MeasureT-loop
 loop-holds : tie.Need-loop-holds Inv-loop μ-loop
 loop-holds c = (omega arith, refl, below-none _)
 
-gate-mean-requires : tie.Need-gate-mean-requires Inv-loop μ-loop
-gate-mean-requires c κs = (c .before .before .pre .0 (c .before .loop .l) (c .loop-test .taken), c .before .before .pre .1)
+gate-step-requires : tie.Need-gate-step-requires Inv-loop μ-loop
+gate-step-requires c κs = (c .before .before .pre .0 (c .before .loop .l) (c .loop-test .taken), c .before .before .pre .1)
 
 loop-again : tie.Need-loop-again Inv-loop μ-loop
 loop-again c =
     let l = c .before .before .loop in
-    fill-turn rowLength _ (l .row) (l .l) _ (l .inv) (omega arith) (c .gate-mean .ensures)
+    fill-turn rowLength _ (l .row) (l .l) _ (l .inv) (omega arith) (c .gate-step .ensures)
 
 returns : tie.Need-returns Inv-loop μ-loop
 returns c l less = c .before .loop .inv .2 l (omega arith)
@@ -42,7 +42,7 @@ gate-row-spec =
     loop-holds
     (λ c. search needs)
     (λ c. search needs)
-    gate-mean-requires
+    gate-step-requires
     (λ c. search needs)
     (λ c. search needs)
     (λ c. search needs)

@@ -22,17 +22,16 @@ abbrev μ-loop : tie.MeasureT-loop
 loop-holds : tie.Need-loop-holds Inv-loop μ-loop
 loop-holds c = (omega arith, refl, below-none _)
 
-mean-requires : tie.Need-mean-requires Inv-loop μ-loop
-mean-requires c κs =
+output-step-requires : tie.Need-output-step-requires Inv-loop μ-loop
+output-step-requires c κs =
     let l = c .before .before .loop .l in
     let less = c .before .loop-test .taken in
-    (c .before .before .before .pre .0 .0 l less, omega arith, c .before .before .before .pre .1 l less)
+    (c .before .before .before .pre .0 .0 l less, c .before .before .before .pre .1 l less)
 
 loop-again : tie.Need-loop-again Inv-loop μ-loop
-unfolding outputStep
 loop-again c =
     let l = c .before .before .before .loop in
-    fill-turn rowLength _ (l .row) (l .l) _ (l .inv) (omega arith) (c .mean .ensures)
+    fill-turn rowLength _ (l .row) (l .l) _ (l .inv) (omega arith) (c .output-step .ensures)
 
 returns : tie.Need-returns Inv-loop μ-loop
 returns c l less = c .before .loop .inv .2 l (omega arith)
@@ -50,7 +49,7 @@ output-row-spec =
     (λ c. search needs)
     (λ c. search needs)
     (λ c. search needs)
-    mean-requires
+    output-step-requires
     (λ c. search needs)
     (λ c. search needs)
     (λ c. search needs)

@@ -93,9 +93,6 @@ loop-again c =
           (l .inv .2),
     )
 
-cast-result : tie.Need-cast-result Inv-loop μ-loop
-cast-result c = omega (arith, c .before .loop .inv .1)
-
 returns : tie.Need-returns Inv-loop μ-loop
 unfolding reliabilityNow
 returns c =
@@ -120,10 +117,8 @@ reliability-now-spec =
     shared-slice-read-index
     (λ c κs. search needs)
     source-word-requires
-    (λ c. search needs)
     output-step-requires
     (λ c. search needs)
     (λ c. search needs)
     loop-again
-    cast-result
     returns)

@@ -1,17 +1,12 @@
--- The sums that the means of rows round, and halves of words: what the code works out is what the definitions say. Assumes nothing.
-use Prim.Native.Nat.{ℕ, suc, _+_, _-_, _*_, _/_, _%_, _^_, _≤_, _<_}
+-- The sums that means round: what the formulas without a branch work out is what the definitions say. Assumes nothing.
+use Prim.Native.Nat.{ℕ, _+_, _-_, _*_, _/_, _%_, _≤_, _<_}
 use mathlib.Core.Path.{_≡_, sym, ap, _∙_}
 use mathlib.Core.Logic.{by-cases}
 use native.Mathlib.Nat.{sub-add-cancel, mul-le-mul, div-eq-of-lt-le}
 use native.Mathlib.Decide.{decLe}
 use native.Mathlib.Omega.{arith}
-use lib.Dec.{eqb}
-use lib.Pow.{field, mod-mod-pow, shr-shr}
 use Rattle.rounding.specs.Rounding.{unitsInOne, roundDiv, blend}
 use Rattle.rounding.proofs.Laws.{without-cases, same-fraction}
-use Rattle.figure.specs.Figure.{gateStep}
-use Rattle.signals.specs.Signals.{lane}
-use Rattle.rows.specs.Rows.{rowLength}
 
 -- two figures multiplied
 pub product-fits : (a b : ℕ) → a ≤ unitsInOne → b ≤ unitsInOne → a * b ≤ unitsInOne * unitsInOne
@@ -65,7 +60,7 @@ even-above n k low e less =
     let all : evenAbove k low ≡ k = omega arith in
     div-eq-of-lt-le (2 * halfUnit) (omega arith) (omega arith) ∙ sym all)
 
--- a gate step's
+-- a figure and its rest
 module _ (m p : ℕ) (hm : m ≤ unitsInOne) (hp : p ≤ unitsInOne) where
   whole : (m + p) * unitsInOne ≡ m * (unitsInOne - p) + (unitsInOne - m) * p + 2 * (m * p)
   whole =
@@ -75,26 +70,13 @@ module _ (m p : ℕ) (hm : m ≤ unitsInOne) (hp : p ≤ unitsInOne) where
         ap (λ (z : ℕ). z * p) (sub-add-cancel {n = unitsInOne} {m = m} hm),
       )
 
-  pub gate-part : m * p ≤ (m + p) * halfUnit
-  gate-part = omega (arith, whole)
+  pub rest-part : m * p ≤ (m + p) * halfUnit
+  rest-part = omega (arith, whole)
 
   -- what the code works out: the part taken off rounded up at a half, and one put back
-  pub gate-made : gateStep unitsInOne m p ≡ evenAbove (m + p - (m * p + quarterUnit) / halfUnit) ((m * p + quarterUnit) % halfUnit)
-  unfolding gateStep blend
-  gate-made =
+  pub rest-made : blend unitsInOne m (unitsInOne - m) p ≡ evenAbove (m + p - (m * p + quarterUnit) / halfUnit) ((m * p + quarterUnit) % halfUnit)
+  unfolding blend
+  rest-made =
       same-fraction (m * (unitsInOne - p) + (unitsInOne - m) * p) unitsInOne ((m + p) * halfUnit - m * p) halfUnit (omega arith) (omega arith)
       (omega (arith, whole))
-      ∙ even-above ((m + p) * halfUnit - m * p) _ _ (omega (arith, gate-part)) (omega arith)
-
--- the low bits of a number are those of the number
-pub low-bit : (n x s : ℕ) → s < n → x % 2 ^ n / 2 ^ s % 2 ≡ x / 2 ^ s % 2
-low-bit n x s l =
-    let m = n - suc s in
-    let parts : n ≡ m + 1 + s = omega arith in
-    ap (λ (k : ℕ). x % 2 ^ k / 2 ^ s % 2) parts ∙ ap (λ (y : ℕ). y % 2) (field x (m + 1) s) ∙ mod-mod-pow (x / 2 ^ s) m 1
-
--- the 32 lanes of a word from `shift` on
-pub half-lane : (shift l x : ℕ) → l < rowLength → lane l (x / 2 ^ shift % 4_294_967_296) ≡ lane (shift + l) x
-unfolding lane
-half-lane shift l x less =
-    ap (λ (y : ℕ). eqb y 1) (low-bit 32 (x / 2 ^ shift) l less ∙ ap (λ (y : ℕ). y % 2) (shr-shr x shift l))
+      ∙ even-above ((m + p) * halfUnit - m * p) _ _ (omega (arith, rest-part)) (omega arith)
