@@ -89,7 +89,7 @@ static void make_kind(int kind) {
 
 /* ---- timing: the best of many short runs, taken in turn */
 
-static double now_ns(void) { struct timespec t; clock_gettime(CLOCK_MONOTONIC, &t); return t.tv_sec * 1e9 + t.tv_nsec; }
+static inline double now_ns(void) { struct timespec t; clock_gettime(CLOCK_MONOTONIC, &t); return t.tv_sec * 1e9 + t.tv_nsec; }
 #define TIME(best, runs, body) do { \
         double t0 = now_ns(); \
         for (int r_ = 0; r_ < (runs); r_++) { body; } \

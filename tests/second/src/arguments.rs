@@ -23,6 +23,22 @@ pub fn flip(random: &mut Random) -> (u8, [u8; 8]) {
     }
 }
 
+/// Leaves weights in a few places only, or in one run: a walk over the patterns may pass the rest by.
+fn leave_few(random: &mut Random, weights: &mut [u32]) {
+    let patterns = weights.len();
+    let kept: Vec<usize> = if random.once_in(2) {
+        (0..random.between(1, 4)).map(|_| random.index(patterns)).collect()
+    } else {
+        let start = random.index(patterns);
+        (start..patterns).take(random.pick(&[1, 31, 32, 33, 64, 100])).collect()
+    };
+    for (pattern, weight) in weights.iter_mut().enumerate() {
+        if !kept.contains(&pattern) {
+            *weight = 0;
+        }
+    }
+}
+
 /// Weights for 2^inputs patterns, with every fault of refusal 12 now and then.
 pub fn weights(random: &mut Random, inputs: u32) -> Vec<u32> {
     let right = 1usize << inputs;
@@ -35,6 +51,9 @@ pub fn weights(random: &mut Random, inputs: u32) -> Vec<u32> {
         (0..length).map(|_| random.below(u64::from(most) + 1) as u32).collect();
     if random.once_in(8) {
         weights.fill(random.pick(&[0, 0, 1, MAX_WEIGHT]));
+    }
+    if random.once_in(4) && !weights.is_empty() {
+        leave_few(random, &mut weights);
     }
     if random.once_in(8) && !weights.is_empty() {
         // One or two that are too large, or one at the limit.
