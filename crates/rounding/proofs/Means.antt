@@ -35,10 +35,6 @@ halfUnit = 536_870_912
 abbrev pub quarterUnit : ℕ
 quarterUnit = 268_435_456
 
--- k, and one more where nothing is left over and k is odd
-abbrev pub evenAbove : ℕ → ℕ → ℕ
-evenAbove k low = k + ((halfUnit - low) / halfUnit + k % 2) / 2
-
 -- k and a half, to k or the number above it
 odd-or-even : (n b k : ℕ) → n ≡ k * halfUnit + quarterUnit → b < 2 → (2 * n + (halfUnit - 1) + b) / (2 * halfUnit) ≡ k + b
 odd-or-even n b k e less =
@@ -46,19 +42,14 @@ odd-or-even n b k e less =
     (λ none. div-eq-of-lt-le (2 * halfUnit) (omega arith) (omega arith))
     (λ some. div-eq-of-lt-le (2 * halfUnit) (omega arith) (omega arith))
 
--- a number that is `low` short of k and a half
-even-above : (n k low : ℕ) → n + low ≡ k * halfUnit + quarterUnit → low < halfUnit → roundDiv n halfUnit ≡ evenAbove k low
-even-above n k low e less =
-    sym (without-cases n halfUnit (omega arith))
-    ∙ by-cases (decLe low 0)
-    (λ none.
-    let whole : n / halfUnit ≡ k = omega arith in
-    let parity : n / halfUnit % 2 ≡ k % 2 = ap (λ (x : ℕ). x % 2) whole in
-    let all : evenAbove k low ≡ k + k % 2 = omega arith in
-    odd-or-even n (n / halfUnit % 2) k (omega arith) (omega arith) ∙ ap (λ (b : ℕ). k + b) parity ∙ sym all)
-    (λ some.
-    let all : evenAbove k low ≡ k = omega arith in
-    div-eq-of-lt-le (2 * halfUnit) (omega arith) (omega arith) ∙ sym all)
+-- a number that is k and a half, and one that is less than a unit short of it
+at-half : (n k : ℕ) → n ≡ k * halfUnit + quarterUnit → roundDiv n halfUnit ≡ k + k % 2
+at-half n k e =
+    let parity : n / halfUnit % 2 ≡ k % 2 = omega arith in
+    sym (without-cases n halfUnit (omega arith)) ∙ odd-or-even n (n / halfUnit % 2) k e (omega arith) ∙ ap (λ (b : ℕ). k + b) parity
+
+below-it : (n k low : ℕ) → n + low ≡ k * halfUnit + quarterUnit → 0 < low → low < halfUnit → roundDiv n halfUnit ≡ k
+below-it n k low e some less = sym (without-cases n halfUnit (omega arith)) ∙ div-eq-of-lt-le (2 * halfUnit) (omega arith) (omega arith)
 
 -- a figure and its rest
 module _ (m p : ℕ) (hm : m ≤ unitsInOne) (hp : p ≤ unitsInOne) where
@@ -73,10 +64,22 @@ module _ (m p : ℕ) (hm : m ≤ unitsInOne) (hp : p ≤ unitsInOne) where
   pub rest-part : m * p ≤ (m + p) * halfUnit
   rest-part = omega (arith, whole)
 
-  -- what the code works out: the part taken off rounded up at a half, and one put back
-  pub rest-made : blend unitsInOne m (unitsInOne - m) p ≡ evenAbove (m + p - (m * p + quarterUnit) / halfUnit) ((m * p + quarterUnit) % halfUnit)
+  -- the rest, over U / 2, in the terms of what is taken off
+  abbrev rest : ℕ
+  rest = (m + p) * halfUnit - m * p
+
+  abbrev pub near : ℕ
+  near = m + p - (m * p + quarterUnit) / halfUnit
+
+  rest-half : blend unitsInOne m (unitsInOne - m) p ≡ roundDiv rest halfUnit
   unfolding blend
-  rest-made =
+  rest-half =
       same-fraction (m * (unitsInOne - p) + (unitsInOne - m) * p) unitsInOne ((m + p) * halfUnit - m * p) halfUnit (omega arith) (omega arith)
       (omega (arith, whole))
-      ∙ even-above ((m + p) * halfUnit - m * p) _ _ (omega (arith, rest-part)) (omega arith)
+
+  -- what the code works out: the part taken off rounded up at a half, and there one put back where an odd number is left
+  pub rest-even : (m * p + quarterUnit) % halfUnit ≡ 0 → blend unitsInOne m (unitsInOne - m) p ≡ near + near % 2
+  rest-even none = rest-half ∙ at-half rest near (omega (arith, rest-part))
+
+  pub rest-near : 0 < (m * p + quarterUnit) % halfUnit → blend unitsInOne m (unitsInOne - m) p ≡ near
+  rest-near some = rest-half ∙ below-it rest near ((m * p + quarterUnit) % halfUnit) (omega (arith, rest-part)) some (omega arith)

@@ -1,5 +1,5 @@
 // Rounding: a division to the nearest whole number, and the one rounding step of the figures, the mean of two figures. Every formula that rounds stands
-// here; no branch is taken in any.
+// here.
 ghost use mathlib.Core.Path.{_≡_};
 ghost use Prim.Native.Nat.{_+_, _-_, _*_, _≤_, _<_};
 ghost use Rattle.rounding.specs.Rounding.{unitsInOne, roundDiv, blend};
@@ -12,7 +12,7 @@ pub const ONE: u32 = UNITS_IN_ONE as u32;
 const HALF: u64 = UNITS_IN_ONE / 2;
 
 // `sum` divided by `count`, to the nearest whole number: just short of half a count is added, and at an odd quotient the half itself, so that a half goes
-// to the even number.
+// to the even number; no branch is taken.
 pub fn rounded(sum: u64, count: u64) -> u64
     requires { ⌜ 0 < count ⌝ }
     requires { ⌜ 2 * sum + 2 * count < 18_446_744_073_709_551_616 ⌝ }
@@ -39,6 +39,9 @@ pub fn blended_rest(figure: u32, failure: u32) -> u32
 {
     let product = figure as u64 * failure as u64 + HALF / 2;
     let near = figure + failure - (product / HALF) as u32;
-    let half = (ONE / 2 - (product % HALF) as u32) / (ONE / 2);
-    near + (half + near % 2) / 2
+    if product % HALF == 0 {
+        near + near % 2
+    } else {
+        near
+    }
 }

@@ -4,7 +4,7 @@ use mathlib.Core.Path.{sym}
 use native.Mathlib.Omega.{arith}
 use borrow.Author.Needs.{needs}
 use Rattle.rounding.specs.Rounding.{unitsInOne}
-use Rattle.rounding.proofs.Means.{product-fits, halfUnit, rest-made, rest-part}
+use Rattle.rounding.proofs.Means.{product-fits, halfUnit, rest-even, rest-near, rest-part}
 use Rattle.rounding.proofs.blended_rest.Statement.{statement}
 use Rattle.rounding.proofs.blended_rest.Tie as tie
 
@@ -29,7 +29,10 @@ sub-near : tie.Need-sub-near
 sub-near c = omega (arith, part c)
 
 returns : tie.Need-returns
-returns c = sym (rest-made (c .args .figure) (c .args .failure) (c .pre .0) (c .pre .1))
+returns c = sym (rest-even (c .before .args .figure) (c .before .args .failure) (c .before .pre .0) (c .before .pre .1) (c .if1 .taken))
+
+returns-2 : tie.Need-returns-2
+returns-2 c = sym (rest-near (c .before .args .figure) (c .before .args .failure) (c .before .pre .0) (c .before .pre .1) (omega (arith, c .if1 .left)))
 
 pub blended-rest-spec : {M : Type 1} → statement M
 blended-rest-spec =
@@ -41,8 +44,5 @@ blended-rest-spec =
     cast-near
     sub-near
     (λ c. search needs)
-    (λ c. search needs)
-    (λ c. search needs)
-    (λ c. search needs)
-    (λ c. search needs)
-    returns)
+    returns
+    returns-2)
