@@ -1,36 +1,39 @@
 /* How much stack the calls take: each runs on a thread whose stack is painted, on every netlist of the timing programs, and the bytes below its caller that
- * lost their paint are counted. The arguments are the figures that the header states for opening, for averages and for counts, in KB of 1024 bytes. */
+ * lost their paint are counted. The arguments are the figures that the header states, in KB of 1024 bytes, in the order of `calls`; none may be passed, and
+ * none may be more than 8 KB too large. */
 #define _GNU_SOURCE
 #include "../speed/netlists.h"
 #include <pthread.h>
 
-enum { PAINT = 0xA5, STACK = 512 * 1024, LISTED = 100, CALLS = 4 };
+enum { PAINT = 0xA5, STACK = 512 * 1024, SLACK = 8 * 1024, LISTED = 100 };
 
 static uint8_t *stack;
 static uint32_t area[WORDS], weights[1 << N], listed[LISTED], counts[G];
+static uint64_t answer;
 static size_t caller; /* where in the stack the caller stands */
-
-typedef uint64_t Call(uint32_t *result);
 
 static uint64_t open_image(uint32_t *live) { return bench_open(area, WORDS, image, image_len, live); }
 static uint64_t average(uint32_t *units) { return bench_average(area, WORDS, weights, 1 << N, units); }
 static uint64_t by_flip(uint32_t *unused) { return *unused = 0, bench_counts_by_flip(area, WORDS, listed, LISTED, counts, G); }
 static uint64_t by_mask(uint32_t *unused) { return *unused = 0, bench_counts_by_mask(area, WORDS, listed, LISTED, counts, G); }
 
+enum { OPEN, AVERAGE, BY_FLIP, BY_MASK, CALLS };
 static const struct {
     const char *name;
-    Call *call;
-    int figure; /* which of the header's figures is meant */
-} calls[CALLS] = {{"open", open_image, 1}, {"average", average, 2}, {"counts_by_flip", by_flip, 3}, {"counts_by_mask", by_mask, 3}};
+    uint64_t (*call)(uint32_t *result);
+} calls[CALLS] = {{"open", open_image}, {"average", average}, {"counts_by_flip", by_flip}, {"counts_by_mask", by_mask}};
+
+static size_t most[CALLS];
 
 static void *run(void *which) {
     uint32_t result = 0;
     caller = (size_t)((uint8_t *)&result - stack);
-    if (calls[*(int *)which].call(&result)) exit(printf("stack: %s is refused\n", calls[*(int *)which].name));
+    answer = calls[*(int *)which].call(&result);
     return NULL;
 }
 
-static size_t taken(int which) {
+/* Makes a call, which is to be answered with this number, and notes what it takes. */
+static void measure(int which, uint32_t number) {
     pthread_attr_t with;
     pthread_t thread;
     size_t at = 0;
@@ -39,26 +42,25 @@ static size_t taken(int which) {
         exit(printf("stack: no thread\n"));
     pthread_join(thread, NULL);
     pthread_attr_destroy(&with);
+    if (BENCH_NUMBER(answer) != number) exit(printf("stack: %s is answered with %u\n", calls[which].name, BENCH_NUMBER(answer)));
     while (at < caller && stack[at] == PAINT) at++;
-    return caller - at;
+    if (caller - at > most[which]) most[which] = caller - at;
 }
 
 int main(int count, char **stated) {
-    size_t most[CALLS] = {0};
     void *memory;
-    if (count != 4 || posix_memalign(&memory, 4096, STACK)) return 1;
+    if (count != 1 + CALLS || posix_memalign(&memory, 4096, STACK)) return 1;
     stack = memory;
     for (int q = 0; q < 1 << N; q++) weights[q] = 1;
     for (int kind = 0; kind < KINDS; kind++) {
         make_kind(kind);
-        for (int which = 0; which < CALLS; which++) {
-            size_t bytes = taken(which);
-            if (bytes > most[which]) most[which] = bytes;
-        }
+        for (int which = OPEN; which <= BY_MASK; which++) measure(which, 0);
     }
     for (int which = 0; which < CALLS; which++) {
-        printf("stack: %s takes %zu bytes; the header says %s KB\n", calls[which].name, most[which], stated[calls[which].figure]);
-        if (most[which] > strtoul(stated[calls[which].figure], NULL, 10) * 1024) return 1;
+        size_t bytes = strtoul(stated[1 + which], NULL, 10) * 1024;
+        printf("stack: %s takes %zu bytes, %zu stated\n", calls[which].name, most[which], bytes);
+        if (most[which] > bytes || bytes > most[which] + SLACK) return 1;
     }
+    free(memory);
     return 0;
 }
