@@ -7,8 +7,13 @@
 
 #include "../include/bench.h"
 
+/* inputs and gates: 12 and 1,024, or as the compiler is told */
+#ifndef N
 #define N 12
+#endif
+#ifndef G
 #define G 1024
+#endif
 #define WORDS (8 + 8 * G + 64)
 
 static uint64_t seed = 88172645463325252ull;

@@ -41,11 +41,11 @@ static void round_of(int b, uint64_t field, double best[CALLS][2]) {
     uint32_t live;
     TIME(best[0][b], 4, done(builds[b].open(area, WORDS, image, image_len, &live)));
     TIME(best[1][b], 24, done(builds[b].toggle(area, WORDS, r_ % N)));
-    TIME(best[2][b], 24, done(builds[b].set(area, WORDS, 40 * r_, 1, field)));
+    TIME(best[2][b], 24, done(builds[b].set(area, WORDS, 40 * r_ % G, 1, field)));
 }
 
 static void long_round_of(int b, double best[CALLS][2]) {
-    TIME(best[3][b], 1, done(builds[b].average(area, WORDS, weights, 4096, &units[b])));
+    TIME(best[3][b], 1, done(builds[b].average(area, WORDS, weights, 1 << N, &units[b])));
     memcpy(left[b], area, sizeof area);
     TIME(best[4][b], 1, done(builds[b].by_flip(area, WORDS, listed, 4096, flips[b], G)));
     TIME(best[5][b], 1, done(builds[b].by_mask(area, WORDS, listed, 4096, masks[b], G)));
@@ -55,7 +55,7 @@ int main(void) {
     double chance = 0.3;
     uint64_t field, kept = seed;
     memcpy(&field, &chance, 8);
-    for (int q = 0; q < 4096; q++) weights[q] = 1, listed[q] = next() % 4096;
+    for (int q = 0; q < 4096; q++) weights[q] = 1, listed[q] = next() % (1 << N);
     seed = kept; /* the netlists of speed/calls.c */
     for (int kind = 0; kind < KINDS; kind++) {
         double best[CALLS][2];

@@ -6,7 +6,7 @@ use mathlib.Core.Path.{_≡_}
 use lib.ListN.{length, getD, set}
 use Rattle.rounding.specs.Rounding.{unitsInOne}
 use Rattle.figure.specs.Figure.{rightOf, failureOf}
-use Rattle.area.specs.Layout.{inputs, gates, patternIndex, outputWords, sourceWord}
+use Rattle.area.specs.Layout.{mostPatterns, inputs, gates, patternIndex, outputWords, sourceWord}
 use Rattle.area.specs.Net.{netOf}
 use Rattle.signals.specs.Signals.{laneCount, rightIn, WordsHold}
 use Rattle.rows.specs.Rows.{rowLength, rowWords, rowAt}
@@ -49,7 +49,7 @@ Block ws rows start b = (j : ℕ) → j < b → IsLive ws (inputs ws + j) → (l
 
 -- the rows of all patterns
 abbrev pub rowCount : ℕ
-rowCount = 128
+rowCount = mostPatterns / rowLength
 
 -- a live gate from gate b on that does not tell row `number` from row `held` has its failures for it
 abbrev pub HeldFrom : List ℕ → List ℕ → List ℕ → ℕ → ℕ → ℕ → Type 0

@@ -20,8 +20,8 @@ ghost use Rattle.plan.specs.Plan.{rowBits, NextLive, Unseen};
 ghost use Rattle.average.specs.Blocks.{rowCount, LiveWords, ValuesFrom, RowsKept, RowsHeld, rowWord, Block, OutputsFit};
 use refusal::Judgement;
 
-// The number of no row: every source tells it from each of the 128 rows that there are.
-const NO_ROW: usize = 128;
+// The number of no row: every source tells it from each row that there is.
+const NO_ROW: usize = area::MOST_PATTERNS / rows::LANES;
 
 fn all_zero(weights: &[u32]) -> bool
     ensures { λ r. ⌜ r ≡ allZero (now (weights .entry)) ⌝ }

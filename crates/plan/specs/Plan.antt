@@ -1,10 +1,10 @@
 -- What a walk over all patterns knows beforehand. Rows are those of 32 patterns: a row's number is its first pattern over 32.
-use Prim.Native.Nat.{ℕ, _+_, _≤_, _<_}
+use Prim.Native.Nat.{ℕ, _+_, _-_, _≤_, _<_}
 use mathlib.Core.List.{List, []}
 use mathlib.Core.Path.{_≡_}
 use lib.ListN.{length, getD}
 use Rattle.netlist.specs.Live.{readers}
-use Rattle.area.specs.Layout.{mostSources, inputs, gates, pinCount, pin}
+use Rattle.area.specs.Layout.{mostInputs, mostSources, inputs, gates, pinCount, pin}
 use Rattle.area.specs.Net.{netOf}
 
 -- the inputs that change within a row, and the bits of a row's number
@@ -12,7 +12,7 @@ abbrev pub rowInputs : ℕ
 rowInputs = 5
 
 abbrev pub rowBits : ℕ
-rowBits = 7
+rowBits = mostInputs - rowInputs
 
 -- source s has a live reader
 abbrev pub IsLive : List ℕ → ℕ → Type 0

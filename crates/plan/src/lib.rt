@@ -12,7 +12,7 @@ ghost use Rattle.plan.specs.Plan.{rowBits, NextLive, InputBits, Unseen};
 // The inputs that change within a row, and the bits of a row's number.
 const ROW_INPUTS: usize = 5;
 
-const ROW_BITS: usize = 7;
+const ROW_BITS: usize = area::MOST_INPUTS - ROW_INPUTS;
 
 // The lowest live gate from `gate` on, where `next` has that of the gate after it.
 fn next_from(
