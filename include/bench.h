@@ -1,5 +1,5 @@
 /*
- * The soft-error bench for C: eight calls on a work area of 32-bit words.
+ * The soft-error bench for C: eight calls on a work area of 32-bit words, and one that reads BLIF.
  *
  * Link with target/staticlib/libbench_c.a, which `rt staticlib bench_c` writes (x86-64). Every
  * function below is proved to do what its contract in crates/bench_c/src/lib.rt says, for all
@@ -61,16 +61,16 @@
  *
  * With n inputs, source i below n is input i, and source n + j is gate j. Bit r of the truth table is
  * the gate's answer where r is the sum of 2^i over the used pins i that are 1: 8 is AND of two pins, 1
- * an inverter. bench_set_flip explains flip kind and field. rust/ has a tool that makes images from
- * text.
+ * an inverter. bench_set_flip explains flip kind and field. bench_read_blif makes images from BLIF, and
+ * a tool in rust/ makes them from a text with flips.
  *
  *
  * ANSWERS
  *
  * Each call returns 0 when its work is done. Otherwise it refuses, and the returned number holds the
  * refusal: BENCH_NUMBER says which one, BENCH_PLACE where. A refused call has changed nothing: no
- * word of the area, no count, and nothing that an out-pointer points to. Of several reasons the call
- * gives the first in the order that stands with it.
+ * word of the area, no count, no byte of an image, and nothing that an out-pointer points to. Of
+ * several reasons the call gives the first in the order that stands with it.
  *
  * BENCH_REFUSED_... name the numbers.
  *
@@ -95,13 +95,17 @@
  *     15   the list has no pattern, or more than 4096                          0
  *     16   a listed pattern is 2^n or more, with n inputs                      position
  *     17   there is room for fewer counts than the netlist has gates           0
+ *     18   the text has more than 32768 bytes; else a line of it does not fit  0; line
+ *     19   the text's model: a count outside the image's, a name defined
+ *          twice, a name undefined, a loop                                     line
+ *     20   the slice for the image is shorter than the image                   0
  *
  * Where a place is a position in a list, it is the lowest one that is wrong.
  *
- * Every call but bench_open first judges the area, in this order: 13 if it has fewer than 8 words, 14
- * if one of its three counts is out of range, 13 if it is shorter than the counts need, 14 if any
- * other word breaks a rule. An area that bench_open filled and only these calls changed since never
- * gets 14, and gets 13 only if it is lent with fewer words than the netlist takes.
+ * Every call on an area but bench_open first judges it, in this order: 13 if it has fewer than 8
+ * words, 14 if one of its three counts is out of range, 13 if it is shorter than the counts need, 14
+ * if any other word breaks a rule. An area that bench_open filled and only these calls changed since
+ * never gets 14, and gets 13 only if it is lent with fewer words than the netlist takes.
  *
  *
  * POINTERS, STACK, THREADS
@@ -111,9 +115,9 @@
  * type will do. Pointers are aligned for their type. What one pointer of a call can write must not
  * overlap what another pointer of the same call names, and no other thread touches it meanwhile.
  *
- * bench_open takes up to 46 KB of stack, bench_average 160 KB, bench_counts_by_flip and
- * bench_counts_by_mask 42 KB, the other calls less. No call allocates memory, and calls on
- * different areas may run at the same time.
+ * bench_average takes up to 160 KB of stack, bench_read_blif 96 KB, bench_open 46 KB,
+ * bench_counts_by_flip and bench_counts_by_mask 42 KB, the other calls less. No call allocates memory,
+ * and calls that name no area or slice in common may run at the same time.
  */
 #ifndef BENCH_H
 #define BENCH_H
@@ -126,7 +130,7 @@ extern "C" {
 #endif
 
 /* Raised with every change to a function, a number, a layout or a figure that this file speaks of. */
-#define BENCH_VERSION 3
+#define BENCH_VERSION 4
 
 #define BENCH_ONE UINT32_C(1073741824)
 #define BENCH_INPUTS_MAX 12
@@ -136,6 +140,8 @@ extern "C" {
 #define BENCH_IMAGE_MAX 32768
 #define BENCH_WEIGHT_MAX UINT32_C(1048575)
 #define BENCH_LISTED_MAX 4096
+#define BENCH_TEXT_MAX 32768
+#define BENCH_BLIF_IMAGE_MAX 20624
 #define BENCH_WORDS(gates, outputs) (8 + 8 * (size_t)(gates) + (size_t)(outputs))
 #define BENCH_WORDS_MAX BENCH_WORDS(BENCH_GATES_MAX, BENCH_OUTPUTS_MAX)
 
@@ -163,6 +169,9 @@ extern "C" {
 #define BENCH_REFUSED_LIST 15
 #define BENCH_REFUSED_PATTERN 16
 #define BENCH_REFUSED_SHORT_COUNTS 17
+#define BENCH_REFUSED_TEXT_LINE 18
+#define BENCH_REFUSED_TEXT_MODEL 19
+#define BENCH_REFUSED_SHORT_IMAGE 20
 
 /*
  * Opens a netlist image in the area, with pattern 0 and every figure worked out. What the area held
@@ -270,6 +279,45 @@ uint64_t bench_counts_by_flip(const uint32_t *area, size_t area_len, const uint3
  */
 uint64_t bench_counts_by_mask(const uint32_t *area, size_t area_len, const uint32_t *patterns, size_t patterns_len,
                               uint32_t *counts, size_t counts_len);
+
+/*
+ * Reads a text in the Berkeley Logic Interchange Format (BLIF) and writes its image: an empty heading,
+ * no flips. It takes no area. The text has at most BENCH_TEXT_MAX bytes, and these statements in this
+ * order, one a line:
+ *
+ *     .model NAME
+ *     .inputs NAME ...         and .outputs NAME ..., in any number and mixture, with any count of names
+ *     .names SOURCE ... NAME   a gate of up to four sources, then its cover lines; any number of gates
+ *     .end                     after it only blanks and comments
+ *
+ * A cover line is one word with 0, 1 or - for each source, then a word 0 or 1; without sources it is
+ * only the last word. All lines of a cover end in the same value. The gate has this value in each row
+ * that a line meets, and the other in the rest; with no cover line it is 0. A line feed ends a line;
+ * space, tab and CR part words; # begins a comment up to the line feed; a backslash straight before
+ * the line feed joins the next line on. A name has 1 to 32 bytes from 33 to 126, none of them # or
+ * backslash. An output may be an input, and may be listed twice.
+ *
+ * Pin i is source i; inputs and outputs have the numbers of their listing. Gates may stand in any
+ * order: of those whose sources are all placed, the earliest in the text comes next in the image.
+ *
+ * Done: *bytes is the image's length, 20 G + 2 K + 16, at most BENCH_BLIF_IMAGE_MAX, and that many bytes
+ * of image are the image, which passes refusals 1 to 8; bench_open may give 9, where gates are shared.
+ * The bytes past it are as before. The text is only read.
+ *
+ * Refused, in this order. Lines count from 1, and a joined line has the number of its first.
+ *
+ *     no.  refused because                                          place
+ *     18   the text has more than BENCH_TEXT_MAX bytes              0
+ *     18   a line does not fit                                      the first; without .end, if all
+ *                                                                   fit, 1 + the number of line feeds
+ *     19   more than 12 inputs, 64 outputs or 1024 gates,           the lowest that has one too many;
+ *          or no output                                             .end
+ *     19   inputs and gates define a name twice                     the lowest that defines one again
+ *     19   a source or an output is not defined                     the lowest that uses one
+ *     19   a gate depends on itself                                 the lowest .names line of such a gate
+ *     20   image_len is less than the image's length                0
+ */
+uint64_t bench_read_blif(const uint8_t *text, size_t text_len, uint8_t *image, size_t image_len, uint32_t *bytes);
 
 #ifdef __cplusplus
 }

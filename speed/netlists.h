@@ -3,9 +3,9 @@
 #include <stdio.h>
 #include <stdlib.h>
 #include <string.h>
-#include <time.h>
 
 #include "../include/bench.h"
+#include "clock.h"
 
 /* inputs and gates: 12 and 1,024, or as the compiler is told */
 #ifndef N
@@ -92,12 +92,3 @@ static void make_kind(int kind) {
     else make_trees(kind == 5 ? 16 : G, kind == 5 ? 3 : N);
 }
 
-/* ---- timing: the best of many short runs, taken in turn */
-
-static inline double now_ns(void) { struct timespec t; clock_gettime(CLOCK_MONOTONIC, &t); return t.tv_sec * 1e9 + t.tv_nsec; }
-#define TIME(best, runs, body) do { \
-        double t0 = now_ns(); \
-        for (int r_ = 0; r_ < (runs); r_++) { body; } \
-        double t_ = (now_ns() - t0) / (runs); \
-        if (t_ < best) best = t_; \
-    } while (0)

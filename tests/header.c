@@ -92,11 +92,43 @@ static void counts(Counts *by) {
     expect("BENCH_REFUSED_SHORT_COUNTS", by(area, words, list, most, seen, 2), BENCH_REFUSED_SHORT_COUNTS, 0);
 }
 
+/* A text of `count` gates, each the constant 0, and as many outputs as there may be; how long it is. */
+static size_t gates(char *text, int count) {
+    size_t at = (size_t)sprintf(text, ".model m\n.outputs");
+    for (int i = 0; i < BENCH_OUTPUTS_MAX; i++) at += (size_t)sprintf(text + at, " g0");
+    for (int j = 0; j < count; j++) at += (size_t)sprintf(text + at, "\n.names g%d", j);
+    return at + (size_t)sprintf(text + at, "\n.end\n");
+}
+
+static void texts(void) {
+    static char text[BENCH_TEXT_MAX + 1];
+    static uint8_t image[BENCH_BLIF_IMAGE_MAX];
+    const uint8_t *bytes = (const uint8_t *)text;
+    uint32_t written = 7;
+    size_t length = gates(text, BENCH_GATES_MAX + 1), most = BENCH_BLIF_IMAGE_MAX;
+    expect("one gate too many", bench_read_blif(bytes, length, image, most, &written), BENCH_REFUSED_TEXT_MODEL, 3 + BENCH_GATES_MAX);
+    length = gates(text, BENCH_GATES_MAX);
+    expect("BENCH_REFUSED_SHORT_IMAGE", bench_read_blif(bytes, length, image, most - 1, &written), BENCH_REFUSED_SHORT_IMAGE, 0);
+    expect("BENCH_REFUSED_TEXT_LINE", bench_read_blif(bytes, length - 2, image, most, &written), BENCH_REFUSED_TEXT_LINE, 3 + BENCH_GATES_MAX);
+    if (written != 7) {
+        printf("header: a refused text changes the length to %u\n", written);
+        exit(1);
+    }
+    memset(text + length, ' ', sizeof text - length);
+    expect("BENCH_TEXT_MAX", bench_read_blif(bytes, BENCH_TEXT_MAX, image, most, &written), 0, 0);
+    if (written != BENCH_BLIF_IMAGE_MAX) {
+        printf("header: the longest image of a text has %u bytes\n", written);
+        exit(1);
+    }
+    expect("BENCH_TEXT_MAX", bench_read_blif(bytes, BENCH_TEXT_MAX + 1, image, most, &written), BENCH_REFUSED_TEXT_LINE, 0);
+}
+
 int main(void) {
     images();
     calls();
     counts(bench_counts_by_flip);
     counts(bench_counts_by_mask);
+    texts();
     printf("header: every name is the library's\n");
     return 0;
 }

@@ -1,6 +1,6 @@
-/* How much stack the calls take: each runs on a thread whose stack is painted, on every netlist of the timing programs, and the bytes below its caller that
- * lost their paint are counted. The arguments are the figures that the header states, in KB of 1024 bytes, in the order of `calls`; none may be passed, and
- * none may be more than 8 KB too large. */
+/* How much stack the calls take: each runs on a thread whose stack is painted, on every netlist of the timing programs, or on a text that is written, one
+ * that is refused for a loop and one that is refused at once, and the bytes below its caller that lost their paint are counted. The arguments are the figures
+ * that the header states, in KB of 1024 bytes, in the order of `calls`; none may be passed, and none may be more than 8 KB too large. */
 #define _GNU_SOURCE
 #include "../speed/netlists.h"
 #include <pthread.h>
@@ -9,6 +9,8 @@ enum { PAINT = 0xA5, STACK = 512 * 1024, SLACK = 8 * 1024, LISTED = 100 };
 
 static uint8_t *stack;
 static uint32_t area[WORDS], weights[1 << N], listed[LISTED], counts[G];
+static uint8_t written[BENCH_IMAGE_MAX];
+static char text[BENCH_TEXT_MAX + 1];
 static uint64_t answer;
 static size_t caller; /* where in the stack the caller stands */
 
@@ -16,12 +18,13 @@ static uint64_t open_image(uint32_t *live) { return bench_open(area, WORDS, imag
 static uint64_t average(uint32_t *units) { return bench_average(area, WORDS, weights, 1 << N, units); }
 static uint64_t by_flip(uint32_t *unused) { return *unused = 0, bench_counts_by_flip(area, WORDS, listed, LISTED, counts, G); }
 static uint64_t by_mask(uint32_t *unused) { return *unused = 0, bench_counts_by_mask(area, WORDS, listed, LISTED, counts, G); }
+static uint64_t read_blif(uint32_t *bytes) { return bench_read_blif((const uint8_t *)text, strlen(text), written, sizeof written, bytes); }
 
-enum { OPEN, AVERAGE, BY_FLIP, BY_MASK, CALLS };
+enum { OPEN, AVERAGE, BY_FLIP, BY_MASK, READ_BLIF, CALLS };
 static const struct {
     const char *name;
     uint64_t (*call)(uint32_t *result);
-} calls[CALLS] = {{"open", open_image}, {"average", average}, {"counts_by_flip", by_flip}, {"counts_by_mask", by_mask}};
+} calls[CALLS] = {{"open", open_image}, {"average", average}, {"counts_by_flip", by_flip}, {"counts_by_mask", by_mask}, {"read_blif", read_blif}};
 
 static size_t most[CALLS];
 
@@ -47,6 +50,16 @@ static void measure(int which, uint32_t number) {
     if (caller - at > most[which]) most[which] = caller - at;
 }
 
+/* 1,024 gates, the last first; with a loop: the first two read each other */
+static void make_text(int loop) {
+    size_t at = (size_t)sprintf(text, ".model m\n.inputs a\n.outputs g0\n");
+    for (int j = 0; j < BENCH_GATES_MAX; j++) {
+        int next = j + 1 < BENCH_GATES_MAX ? j + 1 : loop ? j - 1 : -1;
+        at += (size_t)(next < 0 ? sprintf(text + at, ".names a g%d\n1 1\n", j) : sprintf(text + at, ".names g%d g%d\n1 1\n", next, j));
+    }
+    sprintf(text + at, ".end\n");
+}
+
 int main(int count, char **stated) {
     void *memory;
     if (count != 1 + CALLS || posix_memalign(&memory, 4096, STACK)) return 1;
@@ -56,6 +69,9 @@ int main(int count, char **stated) {
         make_kind(kind);
         for (int which = OPEN; which <= BY_MASK; which++) measure(which, 0);
     }
+    make_text(0), measure(READ_BLIF, 0);
+    make_text(1), measure(READ_BLIF, BENCH_REFUSED_TEXT_MODEL);
+    strcpy(text, ".end"), measure(READ_BLIF, BENCH_REFUSED_TEXT_LINE);
     for (int which = 0; which < CALLS; which++) {
         size_t bytes = strtoul(stated[1 + which], NULL, 10) * 1024;
         printf("stack: %s takes %zu bytes, %zu stated\n", calls[which].name, most[which], bytes);

@@ -56,6 +56,13 @@ mod c {
             counts: *mut u32,
             counts_len: usize,
         ) -> u64;
+        pub fn bench_read_blif(
+            text: *const u8,
+            text_len: usize,
+            image: *mut u8,
+            image_len: usize,
+            bytes: *mut u32,
+        ) -> u64;
     }
 }
 
@@ -206,4 +213,31 @@ pub fn counts_by_mask(area: &[u32], patterns: &[u32], counts: &mut [u32]) -> Res
         )
     };
     answer(returned, ())
+}
+
+/// Reads a text in the Berkeley Logic Interchange Format, of at most [`MAX_TEXT`](crate::MAX_TEXT)
+/// bytes, and writes its image over the first bytes of `image`: an empty heading, no flips. It returns
+/// the image's length, at most [`MAX_BLIF_IMAGE`](crate::MAX_BLIF_IMAGE); the bytes past it stay as they
+/// are. It takes up to 96 KB of stack.
+///
+/// One model is read: `.model`, `.inputs`, `.outputs`, `.names` of up to four sources with their cover
+/// lines, `.end`, with comments and continued lines. Gates may stand in any order: of those whose
+/// sources are all placed, the earliest in the text comes next in the image. The image passes refusals
+/// 1 to 8; [`open`] may still refuse it with 9, where gates are shared.
+///
+/// Refused in this order; the place is a line, counted from 1, and a continued line has the number of
+/// its first:
+/// - 18 for a longer text (place 0), else at the first line outside this subset, or at 1 + the number of
+///   line feeds where `.end` is missing;
+/// - 19 at the lowest line with one input, output or gate too many, or at `.end` without an output; then
+///   at the lowest line that defines a name again; then at the lowest that uses an undefined one; then
+///   at the lowest that heads a gate which depends on itself;
+/// - 20 for a slice shorter than the image (place 0).
+pub fn read_blif(text: &[u8], image: &mut [u8]) -> Result<u32, Refusal> {
+    let mut bytes = 0;
+    // SAFETY: both slices go with their own lengths, and `bytes` outlives the call.
+    let returned = unsafe {
+        c::bench_read_blif(text.as_ptr(), text.len(), image.as_mut_ptr(), image.len(), &mut bytes)
+    };
+    answer(returned, bytes)
 }

@@ -1,5 +1,5 @@
-//! The proved soft-error bench for Rust: eight calls on a work area that the caller owns, and netlist
-//! images made from text.
+//! The proved soft-error bench for Rust: eight calls on a work area that the caller owns, one that makes
+//! a netlist image from BLIF, and images made from text.
 //!
 //! Every call answers a [`Result`]: its result, or a [`Refusal`] with the number and place that
 //! docs/SCOPE.md gives. A refused call has changed nothing. Figures are whole numbers of units, of
@@ -58,6 +58,24 @@
 //! assert_eq!((refusal.number, refusal.place), (16, 1)); // with two inputs there is no pattern 4
 //! # Ok::<(), Box<dyn std::error::Error>>(())
 //! ```
+//!
+//! A netlist that a synthesis tool wrote as BLIF has no flips until they are set:
+//!
+//! ```
+//! use filzaod::{open, read_blif, read_netlist, set_flip, Flip, MAX_BLIF_IMAGE, MAX_WORDS};
+//!
+//! let text = b".model both\n.inputs a b\n.outputs z\n.names a b z # an AND\n11 1\n.end\n";
+//! let mut image = vec![0; MAX_BLIF_IMAGE];
+//! let length = read_blif(text, &mut image)?;
+//! let mut area = vec![0; MAX_WORDS];
+//! assert_eq!(open(&mut area, &image[..length as usize])?, 1);
+//! set_flip(&mut area, 0, Flip::Chance(0.25))?;
+//! assert_eq!(read_netlist(&area)?.reliability, 0.75);
+//!
+//! let refusal = read_blif(b".model none\n.end\n", &mut image).unwrap_err();
+//! assert_eq!((refusal.number, refusal.place), (19, 2)); // it has no output
+//! # Ok::<(), Box<dyn std::error::Error>>(())
+//! ```
 
 mod calls;
 mod flip;
@@ -65,7 +83,7 @@ mod image;
 mod refusal;
 pub mod text;
 
-pub use calls::{average, counts_by_flip, counts_by_mask};
+pub use calls::{average, counts_by_flip, counts_by_mask, read_blif};
 pub use calls::{open, read_gate, read_netlist, set_flip, toggle_input};
 pub use calls::{GateReading, NetlistReading};
 pub use flip::Flip;
@@ -85,6 +103,10 @@ pub const MAX_IMAGE: usize = 32_768;
 pub const MAX_WEIGHT: u32 = 1_048_575;
 /// The most patterns that a list for counts has; it has one at least.
 pub const MAX_LISTED: usize = 4096;
+/// The most bytes of a text that [`read_blif`] reads.
+pub const MAX_TEXT: usize = 32_768;
+/// The most bytes of an image that [`read_blif`] writes.
+pub const MAX_BLIF_IMAGE: usize = 20_624;
 /// Words of an area that is long enough for every netlist.
 pub const MAX_WORDS: usize = words(MAX_GATES, MAX_OUTPUTS);
 

@@ -39,6 +39,10 @@ impl fmt::Display for Refusal {
             15 => write!(f, "the list has no pattern, or more than 4,096"),
             16 => write!(f, "the pattern at {place} in the list is 2^n or more, with n inputs"),
             17 => write!(f, "there is room for fewer counts than the netlist has gates"),
+            18 if *place == 0 => write!(f, "the text has more than 32,768 bytes"),
+            18 => write!(f, "line {place} does not fit"),
+            19 => write!(f, "line {place}: a count, a name defined twice or undefined, or a loop"),
+            20 => write!(f, "there is no room for the image"),
             _ => write!(f, "unknown to this package"),
         }
     }

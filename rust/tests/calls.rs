@@ -1,6 +1,6 @@
-//! The eight calls through the safe functions: what they answer, and that a refused one changes nothing.
+//! The nine calls through the safe functions: what they answer, and that a refused one changes nothing.
 
-use filzaod::{average, counts_by_flip, counts_by_mask};
+use filzaod::{average, counts_by_flip, counts_by_mask, read_blif};
 use filzaod::{open, read_gate, read_netlist, set_flip, text, toggle_input, words};
 use filzaod::{Flip, GateReading, Refusal, MAX_LISTED, MAX_WEIGHT, MAX_WORDS, ONE};
 
@@ -175,13 +175,32 @@ fn refused_images_have_number_and_place() {
 
 #[test]
 fn every_refusal_can_be_read() {
-    for number in 1..=17 {
+    for number in 1..=20 {
         let said = Refusal { number, place: 77 }.to_string();
         assert!(said.starts_with(&format!("refused {number} 77: ")), "{said}");
         assert!(said.len() > 20 && !said.contains("unknown"), "{said}");
-        let named = matches!(number, 5..=11 | 16);
+        let named = matches!(number, 5..=11 | 16 | 18 | 19);
         assert_eq!(said.matches("77").count(), if named { 2 } else { 1 }, "{said}");
     }
-    let later = Refusal { number: 18, place: 0 };
-    assert_eq!(later.to_string(), "refused 18 0: unknown to this package");
+    let later = Refusal { number: 21, place: 0 };
+    assert_eq!(later.to_string(), "refused 21 0: unknown to this package");
+}
+
+#[test]
+fn a_blif_text_becomes_an_image() {
+    let text = include_bytes!("../../examples/majority.blif");
+    let mut image = [0xAB; 120];
+    assert_eq!(read_blif(text, &mut image), Ok(98));
+    assert_eq!(image[98..], [0xAB; 22]);
+    let mut area = [0; MAX_WORDS];
+    assert_eq!(open(&mut area, &image[..98]), Ok(4));
+    assert_eq!(read_gate(&area, 3).map(|gate| gate.right), Ok(false));
+    toggle_input(&mut area, 0).expect("input 0");
+    toggle_input(&mut area, 2).expect("input 2");
+    assert_eq!(read_gate(&area, 3).map(|gate| gate.right), Ok(true));
+    let mut short = [0xAB; 97];
+    assert_eq!(read_blif(text, &mut short), Err(Refusal { number: 20, place: 0 }));
+    assert_eq!(short, [0xAB; 97]);
+    let last = &text[..text.len() - 5];
+    assert_eq!(read_blif(last, &mut image), Err(Refusal { number: 18, place: 14 }));
 }

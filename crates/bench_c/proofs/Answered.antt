@@ -16,6 +16,8 @@ use Rattle.bench.specs.declared.NetlistRead.{NetlistRead}
 use Rattle.bench.specs.declared.NetlistRead.the-variants.{Done as NetlistDone, Refused as NetlistRefused}
 use Rattle.bench.specs.declared.Averaged.the-variants.{Done as AverageDone, Refused as AverageRefused}
 use Rattle.bench.specs.declared.GateRead.the-variants.{Done as GateDone, Refused as GateRefused}
+use Rattle.blif.specs.Answer.{blifRead}
+use Rattle.blif.specs.declared.BlifRead.the-variants.{Done as BlifDone, Refused as BlifRefused}
 use Rattle.bench.specs.declared.Counted.the-variants.{Done as CountDone, Refused as CountRefused}
 
 -- each law: what the answer done tells, then what a refused one tells
@@ -40,6 +42,11 @@ pub average-told : (j : Judgement) (v : ℕ)
     → ((n : ℕ) → averaged j v ≡ AverageDone n → (j ≡ Fine) × (n ≡ v)) × ((a p : ℕ) → averaged j v ≡ AverageRefused a p → j ≡ Refused a p)
 average-told Fine v = (λ n e. (refl, cc), λ a p e. cc)
 average-told (Refused b q) v = (λ n e. (cc, cc), λ a p e. cc)
+
+pub blif-told : (j : Judgement) (v : ℕ)
+    → ((n : ℕ) → blifRead j v ≡ BlifDone n → (j ≡ Fine) × (n ≡ v)) × ((a p : ℕ) → blifRead j v ≡ BlifRefused a p → j ≡ Refused a p)
+blif-told Fine v = (λ n e. (refl, cc), λ a p e. cc)
+blif-told (Refused b q) v = (λ n e. (cc, cc), λ a p e. cc)
 
 pub gate-told : (j : Judgement) (v w : ℕ)
     → ((m n : ℕ) → gateRead j v w ≡ GateDone m n → (j ≡ Fine) × (m ≡ v) × (n ≡ w))

@@ -13,6 +13,8 @@ use Rattle.area.specs.Rules.{countsInRange, restSound, areaJudgement}
 use Rattle.calls.specs.Judgements.{Call, open-image, toggle-input, set-flip, read-netlist, read-gate, take-average, count-seen}
 use Rattle.calls.specs.Judgements.{lentJudgement, judgement}
 use Rattle.calls.proofs.Judgements.{only-room, only-arguments, only-open}
+use Rattle.blif.specs.Reading.{blifRefusal}
+use Rattle.blif.proofs.Numbers.{only-blif}
 use Rattle.bench_c.specs.Codes.{code}
 
 abbrev Positive : ℕ → Type 0
@@ -38,10 +40,14 @@ of-call ws (read-gate g) = of-lent ws (read-gate g)
 of-call ws (take-average weights) = of-lent ws (take-average weights)
 of-call ws (count-seen method patterns slots) = of-lent ws (count-seen method patterns slots)
 
+positive-code : (v : Judgement) → Only Positive v → code v ≡ 0 → v ≡ Fine
+positive-code Fine only e = refl
+positive-code (Refused number place) only e = absurd (omega (arith, only number place refl))
+
 -- of every call on every area
 pub zero-is-done : (ws : List ℕ) (call : Call) → code (judgement ws call) ≡ 0 → judgement ws call ≡ Fine
-zero-is-done ws call = go (judgement ws call) (of-call ws call)
-  where
-    go : (v : Judgement) → Only Positive v → code v ≡ 0 → v ≡ Fine
-    go Fine only e = refl
-    go (Refused number place) only e = absurd (omega (arith, only number place refl))
+zero-is-done ws call = positive-code (judgement ws call) (of-call ws call)
+
+-- of every text
+pub zero-is-read : (text : List ℕ) (room : ℕ) → code (blifRefusal text room) ≡ 0 → blifRefusal text room ≡ Fine
+zero-is-read text room = positive-code (blifRefusal text room) (only-blif text room)

@@ -7,6 +7,7 @@ ghost use Rattle.area.specs.Layout.{pattern as patternWord, reliabilityWord, fi
 ghost use Rattle.calls.specs.Judgements.{open-image, toggle-input, set-flip, read-netlist, read-gate, take-average, count-seen, judgement};
 ghost use Rattle.calls.specs.Calls.{openLive, averageOf, left, countsLeft};
 ghost use Rattle.bench.specs.Answers.{counted};
+ghost use Rattle.blif.specs.Reading.{textLines, modelLength, blifRefusal, blifLeft};
 ghost use Rattle.bench_c.specs.Codes.{refusalCode, code, fieldBytes, FloatBy};
 use bench::Averaged;
 use bench::Counted;
@@ -15,6 +16,7 @@ use bench::GateRead;
 use bench::NetlistRead;
 use bench::Opened;
 use bench::Toggled;
+use blif::BlifRead;
 use netlist::Method;
 use refusal::Judgement;
 
@@ -196,4 +198,22 @@ pub extern "C" fn bench_counts_by_mask(area: &[u32], patterns: &[u32], counts: &
     ensures { λ _. ⌜ now (counts .exit) ≡ countsLeft (now (area .entry)) Method.Mask (now (patterns .entry)) (now (counts .entry)) ⌝ }
 {
     count_code(bench::counts_by_mask(area, patterns, counts))
+}
+
+// Reads a BLIF text and writes its image; the image's length goes to `bytes`.
+#[no_mangle]
+pub extern "C" fn bench_read_blif(text: &[u8], image: &mut [u8], bytes: &mut u32) -> u64
+    ensures { λ r. ⌜ r ≡ code (blifRefusal (now (text .entry)) (length (now (image .entry)))) ⌝ }
+    ensures { λ _. ⌜ now (bytes .exit) ≡ unlessRefused (blifRefusal (now (text .entry)) (length (now (image .entry))))
+        (modelLength (textLines (now (text .entry)))) (now (bytes .entry)) ⌝ }
+    ensures { λ _. ⌜ now (image .exit) ≡ blifLeft (now (text .entry)) (now (image .entry)) ⌝ }
+{
+    let answer = blif::read_blif(text, image);
+    match answer {
+        BlifRead::Done(written) => {
+            *bytes = written;
+            0
+        }
+        BlifRead::Refused(number, place) => refused(number, place),
+    }
 }

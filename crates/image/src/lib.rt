@@ -18,7 +18,7 @@ const LONGEST_IMAGE: usize = 32_768;
 const KNOWN_FORMAT: u32 = 1;
 
 // The trailer, and its fields after the number of inputs.
-const TRAILER_BYTES: usize = 16;
+pub const TRAILER_BYTES: usize = 16;
 
 const GATES: usize = 2;
 
@@ -31,7 +31,7 @@ const BACK: usize = 8;
 const TOTAL: usize = 12;
 
 // A gate record, and its fields after the number of pins.
-const RECORD_BYTES: usize = 20;
+pub const RECORD_BYTES: usize = 20;
 
 const KIND: usize = 1;
 
@@ -41,7 +41,7 @@ const PINS: usize = 4;
 
 const FIELD: usize = 12;
 
-const OUTPUT_BYTES: usize = 2;
+pub const OUTPUT_BYTES: usize = 2;
 
 // Two and four bytes as one number, the lowest first.
 fn two_bytes(bytes: &[u8], at: usize) -> u32

@@ -8,8 +8,8 @@ use native.Mathlib.Decide.{decLt}
 use native.Mathlib.Numerals.{add-one}
 use native.Mathlib.Omega.{arith}
 use lib.Dec.{eqb}
-use lib.ListN.{length, getD, take, drop, set, replicate, length-append, length-take, length-drop, List·getD-append, List·getD-eq-default}
-use lib.Seq.{sets-eq, sets, take-suc, length-take-le, getD-at, getD-take, getD-drop}
+use lib.ListN.{length, getD, take, drop, set, replicate, length-set, length-append, length-take, length-drop, List·getD-append, List·getD-eq-default}
+use lib.Seq.{getD-set-same, getD-set-other, sets-eq, sets, take-suc, length-take-le, getD-at, getD-take, getD-drop}
 use borrow.Author.Tests.{eqb-true, eqb-false}
 
 -- an entry of a part in its place
@@ -63,6 +63,20 @@ sets-append [] us l i j e =
     let z : j ≡ i = omega arith in
     rw z
 sets-append (a ∷ vs) us l i j e = sets-append vs us (set l i a) (suc i) j (omega arith)
+
+-- what a run of stores leaves as it was, and what it puts in
+pub sets-kept : (vs l : List ℕ) (b k : ℕ) → k < b → getD (sets l b vs) k 0 ≡ getD l k 0
+sets-kept [] l b k h = refl
+sets-kept (a ∷ vs) l b k h = sets-kept vs (set l b a) (suc b) k (omega arith) ∙ getD-set-other l b k a 0 (λ e. omega arith)
+
+pub sets-new : (vs l : List ℕ) (b i : ℕ) → b + length vs ≤ length l → i < length vs → getD (sets l b vs) (b + i) 0 ≡ getD vs i 0
+sets-new [] l b i h m = absurd (omega arith)
+sets-new (a ∷ vs) l b zero h m =
+    let same : b + 0 ≡ b = omega arith in
+    rw same (sets-kept vs (set l b a) (suc b) b (omega arith) ∙ getD-set-same l b a 0 (omega arith))
+sets-new (a ∷ vs) l b (suc i) h m =
+    let next : b + suc i ≡ suc b + i = omega arith in
+    rw next (sets-new vs (set l b a) (suc b) i (rw length-set (omega arith)) (omega arith))
 
 -- one store more of a list's front
 pub sets-turn : (vs l ws : List ℕ) (b i : ℕ) → i < length vs → ws ≡ sets l b (take i vs)

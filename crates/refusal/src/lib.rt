@@ -1,4 +1,4 @@
-// Refusals: what is judged of an image, an area or a call's arguments, and the numbers of document 01 and of document 02, card 1.
+// Refusals: what is judged of an image, an area or a call's arguments, and the numbers of document 01 and of document 02, cards 1 and 4.
 ghost use mathlib.Core.Path.{_≡_};
 ghost use Prim.Native.Nat.{_<_};
 ghost use lib.ListN.{length};
@@ -40,6 +40,13 @@ pub const LIST_LENGTH: u8 = 15;
 pub const LISTED_PATTERN: u8 = 16;
 
 pub const COUNT_SLICE: u8 = 17;
+
+// A text: a line outside the subset, a model that is none, a slice too short for its image.
+pub const TEXT_LINE: u8 = 18;
+
+pub const TEXT_MODEL: u8 = 19;
+
+pub const IMAGE_SLICE: u8 = 20;
 
 // Refused because of the state.
 pub const TOO_SHORT: u8 = 13;

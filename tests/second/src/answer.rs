@@ -1,5 +1,5 @@
-//! What a call answers, and the eight calls as one trait, so that the model and the library can be
-//! driven by the same code.
+//! What a call answers, and the eight calls on an area as one trait, so that the model and the
+//! library can be driven by the same code.
 
 use crate::counts::Method;
 
@@ -43,7 +43,7 @@ pub struct GateReading {
     pub failure: u32,
 }
 
-/// The eight calls; both methods of counting stand under one name.
+/// The eight calls on an area; both methods of counting stand under one name.
 pub trait Bench {
     fn open(&self, area: &mut [u32], image: &[u8]) -> Answer<u32>;
     fn toggle_input(&self, area: &mut [u32], input: u32) -> Answer<()>;

@@ -1,8 +1,9 @@
 //! One call made on the library and on the model, and everything compared that a caller can see.
 
 use crate::answer::{Answer, Bench, GateReading, NetlistReading};
+use crate::blif;
 use crate::counts::Method;
-use crate::ffi::Library;
+use crate::ffi::{self, Library};
 use crate::model::Model;
 
 /// A call with its arguments.
@@ -269,4 +270,21 @@ impl Pair {
             area[at], self.model[at], before[at]
         );
     }
+}
+
+// ---------------------------------------------------------------------------------------------
+// Reading BLIF
+
+/// The library's answer and the slice that it leaves, beside the second reader's.
+pub fn compare_blif(text: &[u8], slice: &[u8]) -> (Answer<u32>, Vec<u8>) {
+    let (mut ours, mut theirs) = (slice.to_vec(), slice.to_vec());
+    let answer = blif::read_blif(text, &mut ours);
+    let of_library = ffi::read_blif(text, &mut theirs);
+    let shown = || String::from_utf8_lossy(text).into_owned();
+    assert_eq!(of_library, answer, "library, then second reader, on {:?}", shown());
+    assert!(theirs == ours, "the bytes left for {:?}", shown());
+    if let Answer::Refused { .. } = answer {
+        assert!(theirs == slice, "refused, and yet written: {:?}", shown());
+    }
+    (answer, theirs)
 }

@@ -16,6 +16,8 @@
 
 pub mod answer;
 pub mod arguments;
+pub mod blif;
+pub mod blif_texts;
 pub mod book;
 pub mod compare;
 pub mod counts;

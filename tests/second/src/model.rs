@@ -41,7 +41,7 @@ fn refuse<T>(number: u8, place: u32) -> Result<T, Refusal> {
     Err(Refusal { number, place })
 }
 
-fn answered<T>(outcome: Result<T, Refusal>) -> Answer<T> {
+pub fn answered<T>(outcome: Result<T, Refusal>) -> Answer<T> {
     match outcome {
         Ok(result) => Answer::Done(result),
         Err(Refusal { number, place }) => Answer::Refused { number, place },

@@ -1,7 +1,8 @@
-//! The model behind the library's eight names, so that every test can run against itself. With
+//! The model behind the library's nine names, so that every test can run against itself. With
 //! `FAULT=name` in the environment it errs in one way, to show that the tests notice.
 
 use crate::answer::{Answer, Bench};
+use crate::blif;
 use crate::counts::{self, Method};
 use crate::model::{self, Counts, Model, Rounding, Variant, PATTERN, RELIABILITY};
 use std::sync::OnceLock;
@@ -61,9 +62,19 @@ enum Fault {
     CountsPastEnd,
     /// A slice that is too short for the counts is cleared.
     CountsRefused,
+    /// Bytes past the image are cleared.
+    ImagePastEnd,
+    /// A slice that is too short for the image is cleared.
+    ImageRefused,
+    /// A backslash before CR LF joins lines too.
+    JoinsBeforeCr,
+    /// A backslash that ends a comment joins lines too.
+    JoinsComments,
+    /// Bytes that no name may have part words.
+    ControlParts,
 }
 
-const FAULTS: [(&str, Fault); 26] = [
+const FAULTS: [(&str, Fault); 31] = [
     ("round_down", Fault::RoundDown),
     ("half_up", Fault::HalfUp),
     ("dead_readers", Fault::DeadReaders),
@@ -90,6 +101,11 @@ const FAULTS: [(&str, Fault); 26] = [
     ("repeats_once", Fault::RepeatsOnce),
     ("counts_past_end", Fault::CountsPastEnd),
     ("counts_refused", Fault::CountsRefused),
+    ("image_past_end", Fault::ImagePastEnd),
+    ("image_refused", Fault::ImageRefused),
+    ("joins_before_cr", Fault::JoinsBeforeCr),
+    ("joins_comments", Fault::JoinsComments),
+    ("control_parts", Fault::ControlParts),
 ];
 
 fn fault() -> Fault {
@@ -346,4 +362,47 @@ fn spoil_counts(method: Method, area: &[u32], patterns: &[u32], slice: &mut [u32
     if list != patterns {
         seen.copy_from_slice(&counts::count(method, area, of_area, &list));
     }
+}
+
+/// # Safety
+/// As for `bench_open`.
+#[no_mangle]
+pub unsafe extern "C" fn bench_read_blif(
+    text: *const u8,
+    text_len: usize,
+    image: *mut u8,
+    image_len: usize,
+    bytes: *mut u32,
+) -> u64 {
+    let text = spoil_text(std::slice::from_raw_parts(text, text_len));
+    let slice = std::slice::from_raw_parts_mut(image, image_len);
+    let answer = blif::read_blif(&text, slice);
+    match (fault(), answer) {
+        (Fault::ImagePastEnd, Answer::Done(length)) => slice[length as usize..].fill(0),
+        (Fault::ImageRefused, Answer::Refused { number: 20, .. }) => slice.fill(0),
+        _ => {}
+    }
+    if let Answer::Done(length) = answer {
+        *bytes = length;
+    }
+    encode(&answer)
+}
+
+/// The text as one of the faults takes it.
+fn spoil_text(text: &[u8]) -> Vec<u8> {
+    let mut text = text.to_vec();
+    let mut comment = false;
+    for at in 0..text.len() {
+        let (byte, next) = (text[at], text.get(at + 1).copied());
+        comment = byte != b'\n' && (comment || byte == b'#');
+        match fault() {
+            Fault::JoinsBeforeCr if byte == b'\\' && next == Some(b'\r') => text.swap(at, at + 1),
+            Fault::JoinsComments if comment && byte == b'\\' && next == Some(b'\n') => {
+                text[at + 1] = b' '
+            }
+            Fault::ControlParts if byte < 32 && byte != b'\n' => text[at] = b' ',
+            _ => {}
+        }
+    }
+    text
 }

@@ -1,0 +1,10 @@
+pub mod Same
+pub mod Chain
+pub mod Placing
+pub mod Sources
+pub mod Outputs
+pub mod Defined
+pub mod Counting
+pub mod Fits
+pub mod Text
+pub mod Numbers

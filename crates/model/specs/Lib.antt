@@ -1,0 +1,3 @@
+pub mod Model
+pub mod Counts
+pub mod Tables

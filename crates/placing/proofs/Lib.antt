@@ -1,0 +1,5 @@
+pub mod Loop
+pub mod Placed
+pub mod Search
+pub mod Going
+pub mod Via

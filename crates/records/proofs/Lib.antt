@@ -1,0 +1,4 @@
+pub mod Length
+pub mod Trailer
+pub mod Passes
+pub mod Netlist

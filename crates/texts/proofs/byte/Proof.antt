@@ -1,0 +1,15 @@
+-- `texts::byte` meets its contract. Assumes nothing.
+use borrow.Author.Needs.{needs}
+use mathlib.Core.Path.{sym}
+use lib.ListN.{List·getD-eq-default}
+use Rattle.texts.proofs.byte.Statement.{statement}
+use Rattle.texts.proofs.byte.Tie as tie
+
+-- src/lib.rt:92:26
+-- src/lib.rt:89:1
+-- src/lib.rt:89:1
+returns-2 : tie.Need-returns-2
+returns-2 c = sym (List·getD-eq-default (c .before .args .text .now) 0 (c .if1 .left))
+
+pub byte-spec : {M : Type 1} → statement M
+byte-spec = tie.close (tie.spec (λ c. search needs) (λ c. search needs) returns-2)
