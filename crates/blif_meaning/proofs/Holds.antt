@@ -16,7 +16,7 @@ use Rattle.statements.specs.Lines.{Line}
 use Rattle.statements.specs.Fit.{fault}
 use Rattle.model.specs.Model.{outputsKey, listed, gatesOf, defined, number, after, wordIn, noWord, noGate}
 use Rattle.covers.specs.Cover.{coverValue, coverTable, tableOf}
-use Rattle.covers.proofs.Cover.{table-below}
+use Rattle.covers.proofs.Rows.{table-below}
 use Rattle.netlist.specs.Netlist.{inputValues}
 use Rattle.meaning.specs.Net.{sourceOf, placedGate}
 use Rattle.meaning.proofs.Meaning.{net, gate-at, count, to-source, below}

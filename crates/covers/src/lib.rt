@@ -1,82 +1,73 @@
 // Cover lines, and the tables of gates.
 ghost use mathlib.Core.Path.{_≡_};
-ghost use mathlib.Core.Bool.{cond, not};
-ghost use lib.Dec.{eqb};
-ghost use Prim.Native.Nat.{_+_, _^_, _<_, _≤_};
-ghost use lib.ListN.{length, getD, drop};
+ghost use Prim.Native.Nat.{_+_, _*_, _^_, _<_, _≤_};
+ghost use lib.ListN.{length, getD};
 ghost use Rattle.figure.specs.Figure.{bitOf};
-ghost use Rattle.netlist.specs.Netlist.{inputValues};
 ghost use Rattle.area.specs.Layout.{mostPins};
-ghost use Rattle.texts.specs.Words.{wordOf, mostWords};
+ghost use Rattle.texts.specs.Words.{mostWords};
 ghost use Rattle.statements.specs.Lines.{Places};
 ghost use Rattle.model.specs.Model.{coverOf};
 ghost use Rattle.model.specs.Tables.{linesFrom};
-ghost use Rattle.covers.specs.Cover.{byteMeets, meets, someMeets, endingOf, coverTable};
+ghost use Rattle.covers.specs.Cover.{byteMeets, meets, someMeets, endingOf, tableOf, coverTable};
 
-fn byte_meets(b: u8, digit: usize) -> bool
-    requires { ⌜ digit < 2 ⌝ }
-    ensures { λ r. ⌜ r ≡ byteMeets b digit ⌝ }
+// What a byte makes of the rows met by those before it: with a 0 at its source they stay where they are, with a 1 they stand `above` times as high.
+fn factor(b: u8, above: usize) -> usize
+    requires { ⌜ above < 65_536 ⌝ }
+    ensures { λ r. ⌜ r ≡ bitOf (byteMeets b 0) + above * bitOf (byteMeets b 1) ⌝ }
 {
-    if b == 45 {
-        return true;
+    match b {
+        45 => 1 + above,
+        48 => 1,
+        49 => above,
+        _ => 0,
     }
-    if b == 48 + digit as u8 {
-        return true;
-    }
-    false
 }
 
-// A line meets row `row` of a table with `width` pins: bit i is the value of source i.
-fn meets(line: &[u8], width: usize, row: usize) -> bool
-    ensures { λ r. ⌜ r ≡ meets (now (line .entry)) (inputValues width row) ⌝ }
+// The byte of a line for source i; a dash past the line's end.
+fn byte_for(line: &[u8], i: usize) -> u8
+    ensures { λ r. ⌜ r ≡ getD (now (line .entry)) i 45 ⌝ }
 {
-    let mut left = row;
+    if i < line.len() { line[i] } else { 45 }
+}
+
+// The rows of a table with `width` pins that a line meets: bit i is row i. Each source doubles the rows.
+fn line_rows(line: &[u8], width: usize) -> usize
+    requires { ⌜ width ≤ mostPins ⌝ }
+    ensures { λ r. ⌜ r ≡ tableOf width (meets (now (line .entry))) ⌝ }
+{
+    let mut rows = 1;
+    let mut above = 2;
     let mut i = 0;
-    while i < line.len() {
-        if i == width {
-            return true;
-        }
-        if !byte_meets(line[i], left % 2) {
-            return false;
-        }
-        left = left / 2;
+    while i < width {
+        rows = rows * factor(byte_for(line, i), above);
+        above = above * above;
         i += 1;
     }
-    true
+    rows
 }
 
-// The line whose first word is word k meets a row.
-fn meets_at(text: &[u8], starts: &[u16], k: usize, width: usize, row: usize) -> bool
-    requires { ⌜ (k < length (now starts)) × (getD (now starts) k 0 < length (now text)) ⌝ }
-    ensures { λ r. ⌜ r ≡ meets (wordOf (drop (getD (now (starts .entry)) k 0) (now (text .entry)))) (inputValues width row) ⌝ }
-{
-    meets(names::word(text, names::entry(starts, k)), width, row)
-}
-
-// Some line of the cover that begins at word `from` meets a row.
-fn some_meets(
+// The rows that some line of the cover that begins at word `from` meets.
+fn cover_rows(
     text: &[u8],
     starts: &[u16],
     lines: &[u16],
     n: usize,
     from: usize,
     width: usize,
-    row: usize,
-) -> bool
-    requires { ⌜ Places (now text) (now starts) n × (n ≤ length (now lines)) × (n ≤ mostWords) × (from ≤ n) ⌝ }
-    ensures { λ r. ⌜ r ≡ someMeets (coverOf (linesFrom (now (text .entry)) (now (starts .entry)) (now (lines .entry)) n from)) (inputValues width row) ⌝ }
+) -> usize
+    requires { ⌜ Places (now text) (now starts) n × (n ≤ length (now lines)) × (n ≤ mostWords) × (from ≤ n) × (width ≤ mostPins) ⌝ }
+    ensures { λ r. ⌜ r ≡ tableOf width (someMeets (coverOf (linesFrom (now (text .entry)) (now (starts .entry)) (now (lines .entry)) n from))) ⌝ }
 {
+    let mut rows = 0;
     let mut k = from;
     while k < n {
         if model::key_at(text, starts, k) != model::COVER {
-            return false;
+            return rows;
         }
-        if meets_at(text, starts, k, width, row) {
-            return true;
-        }
+        rows |= line_rows(names::word(text, names::entry(starts, k)), width);
         k += statements::line_rest(lines, k, n) + 1;
     }
-    false
+    rows
 }
 
 // What the lines of the cover that begins at word `from` end in.
@@ -93,42 +84,21 @@ fn ending(text: &[u8], starts: &[u16], lines: &[u16], n: usize, from: usize) -> 
     statements::value_at(text, starts, from + statements::line_rest(lines, from, n))
 }
 
-// A gate's value, by whether a line meets and what the lines end in.
-fn value(some: bool, ending: usize) -> usize
-    ensures { λ r. ⌜ r ≡ bitOf (cond (eqb ending 0) (not some) some) ⌝ }
-{
-    if ending == 0 {
-        if some {
-            return 0;
-        }
-        return 1;
-    }
-    if some {
-        return 1;
-    }
-    0
-}
-
-fn rows(width: usize) -> usize
+// The table that is 1 in every row.
+fn all_rows(width: usize) -> usize
     requires { ⌜ width ≤ mostPins ⌝ }
-    ensures { λ r. ⌜ (r ≡ 2 ^ width) × (r ≤ 16) ⌝ }
+    ensures { λ r. ⌜ r + 1 ≡ 2 ^ 2 ^ width ⌝ }
 {
-    if width == 0 {
-        return 1;
+    match width {
+        0 => 1,
+        1 => 3,
+        2 => 15,
+        3 => 255,
+        _ => 65_535,
     }
-    if width == 1 {
-        return 2;
-    }
-    if width == 2 {
-        return 4;
-    }
-    if width == 3 {
-        return 8;
-    }
-    16
 }
 
-// The table of a gate with `width` pins whose cover begins at word `from`, from the last row to the first.
+// The table of a gate with `width` pins whose cover begins at word `from`. An empty cover ends in neither value: no row is met, and its table is 0.
 pub fn table(
     text: &[u8],
     starts: &[u16],
@@ -141,12 +111,9 @@ pub fn table(
     ensures { λ r. ⌜ r ≡ coverTable width (coverOf (linesFrom (now (text .entry)) (now (starts .entry)) (now (lines .entry)) n from)) ⌝ }
     ensures { λ r. ⌜ r < 65_536 ⌝ }
 {
-    let ending = ending(text, starts, lines, n, from);
-    let mut row = rows(width);
-    let mut table = 0;
-    while row > 0 {
-        row -= 1;
-        table = 2 * table + value(some_meets(text, starts, lines, n, from, width, row), ending);
+    let rows = cover_rows(text, starts, lines, n, from, width);
+    if ending(text, starts, lines, n, from) == 0 {
+        return all_rows(width) - rows;
     }
-    table
+    rows
 }
