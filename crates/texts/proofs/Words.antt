@@ -1,6 +1,6 @@
 -- Laws of words at a place of a text. Assumes nothing.
 use Prim.Native.Nat.{ℕ, zero, suc, _+_, _*_, _<_, _≤_}
-use mathlib.Core.Path.{_≡_, refl, sym}
+use mathlib.Core.Path.{_≡_, refl, ap, sym}
 use mathlib.Core.Bool.{Bool, true, false, cond}
 use mathlib.Core.List.{List, [], _∷_, _++_, append-nil}
 use borrow.Author.Count.{below-more}
@@ -14,7 +14,7 @@ use Rattle.texts.specs.Words.{mostWords, after, step, inWord, begins, be
 use Rattle.texts.specs.declared.State.{State}
 use Rattle.texts.specs.declared.Place.{Place}
 use Rattle.texts.specs.declared.Place.the-variants.{Gap, Inside, Comment, Joint}
-use Rattle.texts.specs.Words.{Tables, Noted, stepFrom, lineFeeds, held, wordAt}
+use Rattle.texts.specs.Words.{Tables, Noted, stateAfter, stepFrom, lineFeeds, held, wordAt}
 
 module _ (t : List ℕ) (at : ℕ) (inside : at < length t) where
   -- the text from a byte on: the byte, and the text from the next on
@@ -45,6 +45,13 @@ module _ (t : List ℕ) (at : ℕ) (past : length t ≤ at) where
 
   pub words-end : (st : State) → wordsFrom st (drop at t) ≡ []
   words-end st = rw drop-of-length-le
+
+-- a step asks of the next byte only what `after` asks of it
+pub step-alike : (here line b x y : ℕ) → after b x ≡ after b y → (p : Place) → stepFrom p here line b x ≡ stepFrom p here line b y
+step-alike here line b x y e Gap = ap (λ (p : Place). cond (eqb b 10) (stateAfter p (here + 1) (here + 1)) (stateAfter p here line)) e
+step-alike here line b x y e Inside = ap (λ (p : Place). cond (eqb b 10) (stateAfter p (here + 1) (here + 1)) (stateAfter p here line)) e
+step-alike here line b x y e Comment = refl
+step-alike here line b x y e Joint = refl
 
 -- A step keeps the count of LFs, and the line of a byte is never below the first of those joined to it.
 module _ (here line b nx : ℕ) (s : List ℕ) where

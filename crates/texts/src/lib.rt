@@ -118,6 +118,17 @@ fn byte(text: &[u8], at: usize) -> u8
     if at < text.len() { text[at] } else { 0 }
 }
 
+// The byte after a backslash. What stands after any other byte makes no difference to it, and is not read.
+fn ahead(text: &[u8], at: usize) -> u8
+    requires { ⌜ at < length (now text) ⌝ }
+    ensures { λ r. ⌜ after (getD (now (text .entry)) at 0) r ≡ after (getD (now (text .entry)) at 0) (getD (now (text .entry)) (at + 1) 0) ⌝ }
+{
+    if text[at] == 92 {
+        return byte(text, at + 1);
+    }
+    0
+}
+
 // A byte belongs to a word where the place after it is inside one.
 fn in_word(place: Place) -> bool
     ensures { λ r. ⌜ r ≡ inWord place ⌝ }
@@ -147,7 +158,7 @@ fn word_at(text: &[u8], at: usize) -> bool
     requires { ⌜ at < length (now text) ⌝ }
     ensures { λ r. ⌜ r ≡ inWord (after (getD (now (text .entry)) at 0) (getD (now (text .entry)) (at + 1) 0)) ⌝ }
 {
-    in_word(after(text[at], byte(text, at + 1)))
+    in_word(after(text[at], ahead(text, at)))
 }
 
 // Where the word that starts at a place ends.
@@ -209,7 +220,7 @@ pub fn read_words(
     let mut at = 0;
     let mut n = 0;
     while at < text.len() {
-        let next = step(st, text[at], byte(text, at + 1));
+        let next = step(st, text[at], ahead(text, at));
         let place = st.place;
         let next_place = next.place;
         n = note(starts, lines, n, begins(place, next_place), at, st.line);

@@ -4,26 +4,17 @@ use Rattle.texts.proofs.note.Statement.{statement}
 use Rattle.texts.proofs.note.Tie as tie
 use Rattle.texts.proofs.Words.{noted, noted-none}
 
--- src/lib.rt:155:21
--- src/lib.rt:155:9
--- src/lib.rt:155:9
 element-write-starts : tie.Need-element-write-starts
 element-write-starts c = c .before .pre .0 (c .if1 .taken)
 
--- src/lib.rt:156:20
--- src/lib.rt:156:9
--- src/lib.rt:156:9
 element-write-lines : tie.Need-element-write-lines
 element-write-lines c = c .before .pre .0 (c .if1 .taken)
 
--- src/lib.rt:157:16
--- src/lib.rt:157:9
 returns : tie.Need-returns
 returns c = λ text.
     let a = c .before .args in
     rw (c .if1 .taken) (noted text (a .starts .now) (a .lines .now) (c .before .pre .1 .0) (a .n) (a .at) (a .line) (c .before .pre .0 (c .if1 .taken)))
 
--- src/lib.rt:150:1
 returns-2 : tie.Need-returns-2
 returns-2 c = λ text.
     let a = c .before .args in

@@ -1,12 +1,12 @@
 -- `texts::read_words` meets its contract. Assumes nothing.
 use Prim.Native.Nat.{_-_, _≤_}
-use mathlib.Core.Path.{ap, sym, _∙_}
+use mathlib.Core.Path.{sym, _∙_}
 use native.Mathlib.Omega.{arith}
 use lib.ListN.{length}
 use borrow.Author.Needs.{needs}
-use Rattle.texts.proofs.Words.{free}
+use Rattle.texts.proofs.Words.{free, step-alike}
 use Rattle.texts.proofs.Reading.{Reading, start, turn, few, finish}
-use Rattle.texts.specs.Words.{mostBytes, step}
+use Rattle.texts.specs.Words.{mostBytes}
 use Rattle.texts.proofs.read_words.Statement.{statement}
 use Rattle.texts.proofs.read_words.Tie as tie
 
@@ -36,7 +36,7 @@ loop-again c =
     let l = p .before .before .before .before .loop in
     let t = p .before .before .before .before .before .before .args .text .now in
     turn t _ _ _ _ (l .st) (l .at) (l .n) (c .note .result) (l .inv) (search needs) (p .step .result)
-    (p .step .ensures ∙ ap (step (l .st) _) (p .before .byte .ensures))
+    (p .step .ensures ∙ step-alike (l .st .here) (l .st .line) _ _ _ (p .before .ahead .ensures) (l .st .place))
     (rw (c .before .begins .ensures) at (c .note .ensures t))
 
 cast-last : tie.Need-cast-t18 Inv-loop μ-loop
@@ -54,7 +54,6 @@ read-words-spec =
     Inv-loop
     μ-loop
     loop-holds
-    (λ c. search needs)
     (λ c. search needs)
     (λ c κs. search needs)
     (λ c κs. search needs)

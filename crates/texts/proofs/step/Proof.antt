@@ -4,36 +4,21 @@ use borrow.Author.Tests.{eq-eqb, ne-eqb}
 use Rattle.texts.proofs.step.Statement.{statement}
 use Rattle.texts.proofs.step.Tie as tie
 
--- src/lib.rt:71:23
--- src/lib.rt:71:23
--- src/lib.rt:72:26
--- src/lib.rt:72:26
--- src/lib.rt:74:16
--- src/lib.rt:75:57
--- src/lib.rt:75:73
--- src/lib.rt:75:17
 returns : tie.Need-returns
 returns c = rw (c .before .enum-told3 .given .1) (simp (eq-eqb _ _ (c .if1 .taken)))
 
--- src/lib.rt:80:16
--- src/lib.rt:81:57
--- src/lib.rt:81:17
 returns-2 : tie.Need-returns-2
 returns-2 c = rw (c .before .enum-told4 .given .1) (simp (eq-eqb _ _ (c .if2 .taken)))
 
--- src/lib.rt:63:1
 returns-3 : tie.Need-returns-3
 returns-3 c = rw (c .before .enum-told .given .1) (c .outside .ensures)
 
--- src/lib.rt:63:1
 returns-4 : tie.Need-returns-4
 returns-4 c = rw (c .before .enum-told2 .given .1) (c .outside2 .ensures)
 
--- src/lib.rt:63:1
 returns-5 : tie.Need-returns-5
 returns-5 c = rw (c .before .enum-told3 .given .1) (simp (ne-eqb _ _ (c .if1 .left)))
 
--- src/lib.rt:63:1
 returns-6 : tie.Need-returns-6
 returns-6 c = rw (c .before .enum-told4 .given .1) (simp (ne-eqb _ _ (c .if2 .left)))
 
