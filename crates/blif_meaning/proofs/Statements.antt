@@ -18,6 +18,7 @@ use Rattle.statements.specs.Lines.{Line}
 use Rattle.names.specs.Names.{same}
 use Rattle.names.proofs.Names.{same-equal}
 use Rattle.placing.specs.Placing.{entries, Reads, Kept}
+use Rattle.placing.proofs.Earliest.{earliest}
 use Rattle.loops.proofs.First.{all-placed}
 use Rattle.model.specs.Model.{inputsKey, outputsKey, gatesKey, listed, gatesOf, defined, number, noWord, noGate}
 use Rattle.model.specs.Counts.{lineAt, countFault}
@@ -25,15 +26,15 @@ use Rattle.model.proofs.Heading.{gates-listed}
 use Rattle.covers.specs.Cover.{coverValue, coverTable}
 use Rattle.covers.proofs.Cover.{table-answer}
 use Rattle.meaning.specs.Net.{sourceOf, placedNet}
-use Rattle.meaning.proofs.Meaning.{given, given-inputs, given-gates, meaning, below, net}
+use Rattle.meaning.proofs.Meaning.{entries-length, given, given-inputs, given-gates, meaning, below, net}
 use Rattle.resolve.specs.Names.{againAt, againFault, unknownFault, namesFault, sourcesIn, sourceNumbers}
-use Rattle.blif.specs.Reading.{inputCount, gateCount, outputCount, outputNumbers, tableIn, noPlace, modelNet, modelFault, loopsFault}
+use Rattle.blif.specs.Reading.{inputCount, gateCount, outputCount, outputNumbers, tableIn, noPlace, orderIn, modelNet, modelFault, loopsFault}
 use Rattle.blif.specs.Stages.{sourcesFault}
 use Rattle.blif.proofs.Counting.{within}
 use Rattle.blif.proofs.Placing.{none-placed}
 use Rattle.blif.proofs.Sources.{mapped, all-known}
 use Rattle.blif_meaning.proofs.Run.{Ran, ran}
-use Rattle.blif_meaning.specs.Statements.{TableIsCover, Consistent, ValuesExist, ValuesRight, SourcesFirst}
+use Rattle.blif_meaning.specs.Statements.{TableIsCover, Consistent, ValuesExist, ValuesRight, EarliestNext, SourcesFirst}
 
 pub table-is-cover : TableIsCover
 unfolding coverTable
@@ -204,6 +205,18 @@ module _ (ls : List Line) (fine : modelFault ls ≡ Fine) where
             map-at (sourceOf (inputCount ls) (r .place)) 0 0 (outputNumbers ls) k
             (rw (length-map (listed outputsKey ls) (λ (w : Word). number (defined ls) (w .bytes))) h)
             ∙ ap (sourceOf (inputCount ls) (r .place)) numbered
+
+pub earliest-next : EarliestNext
+earliest-next ls fine = (
+  all,
+  λ q h. earliest (sourceNumbers ls) (inputCount ls) (gateCount ls) (within ls (counts-fine ls fine) .few-gates) noPlace refl (λ j. omega (arith, start .low j)) q (rw all h),
+)
+  where
+    start : Kept (sourceNumbers ls) (inputCount ls) (gateCount ls) 0 noPlace noPlace
+    start = none-placed (sourceNumbers ls) (inputCount ls) (gateCount ls)
+
+    all : length (orderIn ls) ≡ gateCount ls
+    all = sym (ap length (r ls fine .placed .ordered)) ∙ entries-length (r ls fine .order) 0 (r ls fine .count) ∙ all-are ls fine
 
 pub sources-first : SourcesFirst
 sources-first ls fine = first ls fine

@@ -15,8 +15,9 @@ use Rattle.image.specs.Refusals.{imageRefusal}
 use Rattle.image.specs.Netlist.{imageNet}
 use Rattle.records.specs.Bytes.{imageOf}
 use Rattle.covers.specs.Cover.{coverValue, coverTable}
-use Rattle.resolve.specs.Names.{sourcesIn}
-use Rattle.blif.specs.Reading.{textLines, inputCount, gateCount, outputCount, modelNet, modelFault, modelLength, blifRefusal, blifLeft}
+use Rattle.placing.specs.Placing.{Earliest}
+use Rattle.resolve.specs.Names.{sourcesIn, sourceNumbers}
+use Rattle.blif.specs.Reading.{textLines, inputCount, gateCount, outputCount, orderIn, modelNet, modelFault, modelLength, blifRefusal, blifLeft}
 
 -- a table equals its cover on every row
 abbrev pub TableIsCover : Type 0
@@ -41,7 +42,14 @@ ValuesRight =
     → (k : ℕ) → k < outputCount ls
     → getD (rightValues (modelNet ls) q) (getD (modelNet ls .outputs) k 0) false ≡ v (getD (listed outputsKey ls) k noWord .bytes)
 
--- each gate reads inputs and gates that are placed before it
+-- gate q of the image is, of the gates of the text that are not among the q before it and whose gate sources all are, the earliest; all gates come
+abbrev pub EarliestNext : Type 0
+EarliestNext =
+    (ls : List Line) → modelFault ls ≡ Fine
+    → (length (orderIn ls) ≡ gateCount ls)
+    × ((q : ℕ) → q < gateCount ls → Earliest (sourceNumbers ls) (inputCount ls) (gateCount ls) (orderIn ls) q)
+
+-- so each gate reads inputs and gates that are placed before it
 abbrev pub SourcesFirst : Type 0
 SourcesFirst = (ls : List Line) → modelFault ls ≡ Fine → PinsBelow (modelNet ls)
 

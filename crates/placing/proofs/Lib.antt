@@ -3,3 +3,4 @@ pub mod Placed
 pub mod Search
 pub mod Going
 pub mod Via
+pub mod Earliest

@@ -1,4 +1,5 @@
--- The order in which gates are placed, and gates that depend on themselves: document 02, card 4. S j lists the sources of gate j of the text, as numbers of definitions: below n an input, n + i gate i.
+-- The order in which gates are placed, and gates that depend on themselves: document 02, card 4.
+-- S j lists the sources of gate j of the text, as numbers of definitions: below n an input, n + i gate i.
 -- place has an entry for each gate: 0 while it is not placed, else 1 + its number in the image.
 use Prim.Native.Nat.{ℕ, zero, suc, _+_, _-_, _*_, _<_, _≤_}
 use mathlib.Core.Bool.{Bool, true, false, cond, not, _||_, _&&_}
@@ -48,6 +49,17 @@ Reads S n j i = List·Memᴰ (n + i) (S j)
 pub data Depends (S : ℕ → List ℕ) (n : ℕ) : ℕ → ℕ → Type 0 where
   direct : {j i : ℕ} → Reads S n j i → Depends S n j i
   further : {j i k : ℕ} → Reads S n j i → Depends S n i k → Depends S n j k
+
+-- What the order promises, in other words. After the first q gates of an order gate j can come next: it is none of them, and each gate that it reads is one.
+pub record CanFollow (S : ℕ → List ℕ) (n g : ℕ) (order : List ℕ) (q j : ℕ) : Type 0 where
+  pub gate : j < g
+  pub fresh : (p : ℕ) → p < q → getD order p 0 ≡ j → ⊥
+  pub fed : (i : ℕ) → Reads S n j i → (p : ℕ) × ((p < q) × (getD order p 0 ≡ i))
+
+-- gate q of the order can come next, and is the earliest in the text that can
+pub record Earliest (S : ℕ → List ℕ) (n g : ℕ) (order : List ℕ) (q : ℕ) : Type 0 where
+  pub can : CanFollow S n g order q (getD order q 0)
+  pub least : (j : ℕ) → CanFollow S n g order q j → getD order q 0 ≤ j
 
 -- the same as a test: gate j reads gate i, or by way of gates below k what reads it
 abbrev pub isSource : ℕ → List ℕ → Bool

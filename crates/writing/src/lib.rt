@@ -101,7 +101,8 @@ fn write_gates(
     requires { ⌜ Placeable inputs (now pins) (now counts) (now place) ⌝ }
     requires { ⌜ Ordered n (now heads) (now order) gates ⌝ }
     requires { ⌜ recordBytes * gates ≤ length (now image) ⌝ }
-    ensures { λ _. ⌜ now (image .exit) ≡ sets (now (image .entry)) 0 (joined (λ (q : ℕ). recordIn (now (text .entry)) (now (starts .entry)) (now (lines .entry)) n
+    ensures { λ _. ⌜ now (image .exit) ≡ sets (now (image .entry)) 0 (joined (λ (q : ℕ).
+        recordIn (now (text .entry)) (now (starts .entry)) (now (lines .entry)) n
         (now (heads .entry)) (now (pins .entry)) (now (counts .entry)) inputs (now (place .entry)) (getD (now (order .entry)) q 0)) gates) ⌝ }
 {
     let mut q = 0;
