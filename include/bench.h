@@ -96,8 +96,8 @@
  *     16   a listed pattern is 2^n or more, with n inputs                      position
  *     17   there is room for fewer counts than the netlist has gates           0
  *     18   the text has more than 32768 bytes; else a line of it does not fit  0; line
- *     19   the text's model: a count outside the image's, a name defined
- *          twice, a name undefined, a loop                                     line
+ *     19   the text's model: counts that no image has, a name with two
+ *          definitions or with none, gates in a loop                           line
  *     20   the slice for the image is shorter than the image                   0
  *
  * Where a place is a position in a list, it is the lowest one that is wrong.
@@ -247,7 +247,7 @@ uint64_t bench_read_gate(const uint32_t *area, size_t area_len, uint32_t gate, u
 uint64_t bench_average(uint32_t *area, size_t area_len, const uint32_t *weights, size_t weights_len, uint32_t *units);
 
 /*
- * For each gate, in how many of the listed patterns a flip of that gate alone makes some output wrong.
+ * Counts for every gate the listed patterns in which an output goes wrong if this gate flips and no other.
  * The list has 1 to BENCH_LISTED_MAX patterns in any order; one that is listed twice counts twice.
  * Right values are worked out for each listed pattern from pins and tables: the pattern, the flips and
  * the figures that the area holds have no part in it.
@@ -290,21 +290,21 @@ uint64_t bench_counts_by_mask(const uint32_t *area, size_t area_len, const uint3
  *     .names SOURCE ... NAME   a gate of up to four sources, then its cover lines; any number of gates
  *     .end                     after it only blanks and comments
  *
- * A cover line is one word with 0, 1 or - for each source, then a word 0 or 1; without sources it is
- * only the last word. All lines of a cover end in the same value. The gate has this value in each row
- * that a line meets, and the other in the rest; with no cover line it is 0. A line feed ends a line;
- * space, tab and CR part words; # begins a comment up to the line feed; a backslash straight before
- * the line feed joins the next line on. A name has 1 to 32 bytes from 33 to 126, none of them # or
- * backslash. An output may be an input, and may be listed twice.
+ * A cover line of a gate with n sources has two words: n bytes, each 0, 1 or -, and the gate's value, 0
+ * or 1; where n is 0 the value stands alone. A cover says one value in all its lines. The gate has it in
+ * each row that a line meets, and the other in the rest; with no cover line it is 0. Lines are ended by
+ * line feeds, words parted by spaces, tabs and CRs. A comment goes from # to the end of its line. Lines
+ * are continued by a backslash as the last byte before the line feed. Names are made of up to 32 bytes
+ * from 33 to 126, of which # and backslash are left out. Outputs may be inputs, and may be repeated.
  *
- * Pin i is source i; inputs and outputs have the numbers of their listing. Gates may stand in any
- * order: of those whose sources are all placed, the earliest in the text comes next in the image.
+ * The image has the inputs, outputs and pins in the order of the text. Gates may be listed before what
+ * they read: the image always goes on with the first in the text that reads only what is there already.
  *
  * Done: *bytes is the image's length, 20 G + 2 K + 16, at most BENCH_BLIF_IMAGE_MAX, and that many bytes
  * of image are the image, which passes refusals 1 to 8; bench_open may give 9, where gates are shared.
  * The bytes past it are as before. The text is only read.
  *
- * Refused, in this order. Lines count from 1, and a joined line has the number of its first.
+ * Refused, in this order. The first line is line 1; continued lines are told by their first one.
  *
  *     no.  refused because                                          place
  *     18   the text has more than BENCH_TEXT_MAX bytes              0

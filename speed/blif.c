@@ -169,7 +169,7 @@ static int ready(uint32_t j) {
     return 1;
 }
 
-/* of those whose sources are all placed the earliest comes next; how many could be placed */
+/* places the first gate that reads only what is placed, and so on; how many could be placed */
 static uint32_t place_gates(void) {
     uint32_t placed = 0, j = 0;
     memset(place, 0, sizeof place);

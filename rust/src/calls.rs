@@ -169,8 +169,8 @@ pub fn average(area: &mut [u32], weights: &[u32]) -> Result<u32, Refusal> {
     answer(returned, units)
 }
 
-/// Counts for each gate in how many of the listed patterns a flip of that gate alone makes some output
-/// wrong: `counts[j]` for gate j. Counts past those of the gates stay as they are.
+/// Counts for every gate the listed patterns in which an output goes wrong if this gate flips and no
+/// other: `counts[j]` for gate j. Counts past those of the gates stay as they are.
 ///
 /// The list has 1 to [`MAX_LISTED`](crate::MAX_LISTED) patterns, and one that is listed twice counts
 /// twice. The area's own pattern has no part in it. Every flip is followed to the outputs, also where
@@ -221,9 +221,9 @@ pub fn counts_by_mask(area: &[u32], patterns: &[u32], counts: &mut [u32]) -> Res
 /// are. It takes up to 96 KB of stack.
 ///
 /// One model is read: `.model`, `.inputs`, `.outputs`, `.names` of up to four sources with their cover
-/// lines, `.end`, with comments and continued lines. Gates may stand in any order: of those whose
-/// sources are all placed, the earliest in the text comes next in the image. The image passes refusals
-/// 1 to 8; [`open`] may still refuse it with 9, where gates are shared.
+/// lines, `.end`, with comments and continued lines. Gates may be listed before what they read: the
+/// image always goes on with the first in the text that reads only what is there already. The image
+/// passes refusals 1 to 8; [`open`] may still refuse it with 9, where gates are shared.
 ///
 /// Refused in this order; the place is a line, counted from 1, and a continued line has the number of
 /// its first:

@@ -18,7 +18,7 @@ use chance::FlipUnits;
 use netlist::Method;
 use refusal::Judgement;
 
-// The answers: done with its result, or refused with number and place.
+// The answers: what a call has done, or why it has done nothing, by number and place.
 pub enum Opened {
     Done(u32),
     Refused(u8, u32),
@@ -285,7 +285,7 @@ fn count_seen(area: &[u32], patterns: &[u32], counts: &mut [u32], method: Method
     }
 }
 
-// For each gate, in how many of the listed patterns its flip alone makes some output wrong, by flipping it. Entries past one a gate stay as they were.
+// Counts, gate by gate, the listed patterns in which its flip alone is seen at an output, by flipping it. Entries past one a gate stay as they were.
 pub fn counts_by_flip(area: &[u32], patterns: &[u32], counts: &mut [u32]) -> Counted
     ensures { λ r. ⌜ r ≡ counted (judgement (now (area .entry)) (count-seen Method.Flip (now (patterns .entry)) (length (now (counts .entry))))) ⌝ }
     ensures { λ _. ⌜ now (counts .exit) ≡ countsLeft (now (area .entry)) Method.Flip (now (patterns .entry)) (now (counts .entry)) ⌝ }

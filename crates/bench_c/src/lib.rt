@@ -182,7 +182,7 @@ fn count_code(answer: Counted) -> u64
     }
 }
 
-// For each gate, in how many of the listed patterns its flip alone makes some output wrong, by flipping it: one count a gate goes to `counts`.
+// Counts, gate by gate, the listed patterns in which its flip alone is seen at an output, by flipping it: one count a gate goes to `counts`.
 #[no_mangle]
 pub extern "C" fn bench_counts_by_flip(area: &[u32], patterns: &[u32], counts: &mut [u32]) -> u64
     ensures { λ r. ⌜ r ≡ code (judgement (now (area .entry)) (count-seen Method.Flip (now (patterns .entry)) (length (now (counts .entry))))) ⌝ }

@@ -19,7 +19,7 @@ use Rattle.resolve.specs.Names.{againFault, unknownFault, namesFault, sourcesIn
 use Rattle.blif.specs.Reading.{textLines, inputCount, gateCount, loopsFault}
 use Rattle.blif.specs.Stages.{sourcesFault}
 
--- it passes the count: the 13th input, the 65th output or the 1,025th gate stands there; or there is no output, and it is the last line, `.end`
+-- it passes the count: it has one input, output or gate more than an image can hold; or it is the last line, `.end`, of a model without outputs
 pub data PassesCount (ls : List Line) : ℕ → Type 0 where
   of-inputs : mostInputs < length (listed inputsKey ls) → PassesCount ls (lineAt (listed inputsKey ls) mostInputs)
   of-outputs : mostOutputs < length (listed outputsKey ls) → PassesCount ls (lineAt (listed outputsKey ls) mostOutputs)

@@ -77,7 +77,7 @@ taken =
     -- of the gates whose sources are placed the earliest in the text is next: x, then y, which reads it, then z, which could have been placed before y
     ∷ accepted ".model m\n.inputs a\n.outputs y z\n.names x y\n1 1\n.names a x\n0 1\n.names a z\n1 1\n.end\n"
     (single 1 0 ++ (single 2 1 ++ (single 2 0 ++ (twoBytes (2 ∷ 3 ∷ []) ++ trailer 1 3 2))))
-    -- only a line's first word is a keyword
+    -- keywords further on in a line are names
     ∷ accepted ".model .model\n.inputs 0 -\n.outputs .end\n.names 0 - .end\n11 1\n.end\n" andImage
     -- - stands for either value; and a cover whose lines say where the gate is 0
     ∷ accepted ".model m\n.inputs a b\n.outputs y\n.names a b y\n1- 1\n-1 1\n.end\n" orImage

@@ -13,7 +13,7 @@ same [] (b ∷ t) = false
 same (a ∷ s) [] = false
 same (a ∷ s) (b ∷ t) = cond (eqb a b) (same s t) false
 
--- a name has 1 to 32 bytes from 33 to 126, none of them # or backslash
+-- the printable bytes but for blank, # and backslash make names, of up to 32 of them and at least one
 abbrev pub longestName : ℕ
 longestName = 32
 

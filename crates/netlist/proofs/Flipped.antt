@@ -87,7 +87,7 @@ module _ (net : Netlist) (below : PinsBelow net) (flips : List Bool) (q : ℕ) w
       sym (values-keep (net .gates) flips (inputValues (net .inputs) q) i (omega (arith, inputs-length (net .inputs) q)))
       ∙ input-value (net .inputs) q i l
 
-  -- a gate's value is its table's answer on its pins' values, inverted if it flips
+  -- a gate has what its table answers to the values of its pins, and the opposite where it flips
   pub flipped-gate : (k : ℕ) → k < length (net .gates)
       → getD (values (net .gates) flips (inputValues (net .inputs) q)) (net .inputs + k) false
       ≡ invertIf

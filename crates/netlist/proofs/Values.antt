@@ -55,7 +55,7 @@ module _ (net : Netlist) (below : PinsBelow net) (q : ℕ) where
   pub right-input : (i : ℕ) → i < net .inputs → getD (rightValues net q) i false ≡ isOdd (q / 2 ^ i)
   right-input i l = sym (right-solves .start i l) ∙ input-value (net .inputs) q i l
 
-  -- a gate's value is its table's answer on its pins' values
+  -- a gate has what its table answers to the values of its pins
   pub right-gate : (j : ℕ) → j < length (net .gates)
       → getD (rightValues net q) (net .inputs + j) false ≡ answer (gateAt net j .table) (pinValues (rightValues net q) (gateAt net j .pins))
   right-gate = right-solves .steps

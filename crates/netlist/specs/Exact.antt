@@ -10,7 +10,7 @@ abbrev pub sumOverFlips : ℕ → (List Bool → ℕ) → ℕ
 sumOverFlips zero F = F []
 sumOverFlips (suc k) F = sumOverFlips k (λ flips. F (false ∷ flips)) + sumOverFlips k (λ flips. F (true ∷ flips))
 
--- a flip pattern's chance, times d for each gate: the product over ALL gates of the chance if it flips, else 1 less that chance
+-- a flip pattern's chance, times d for each gate: over ALL gates, dead ones too, the product of a flipping gate's chance and of a still gate's rest to 1
 abbrev pub patternChance : ℕ → List Gate → List Bool → ℕ
 patternChance d [] flips = 1
 patternChance d (g ∷ gs) flips = cond (firstFlip flips) (g .chance) (d - g .chance) * patternChance d gs (otherFlips flips)

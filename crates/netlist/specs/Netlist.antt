@@ -43,7 +43,7 @@ abbrev pub otherFlips : List Bool → List Bool
 otherFlips [] = []
 otherFlips (b ∷ bs) = bs
 
--- the values of all sources under a flip pattern: a gate's value is its table's answer on its pins' values, inverted if it flips.
+-- the values of all sources under a flip pattern: a gate has what its table answers to the values of its pins, and the opposite where it flips.
 -- vs holds the values of the sources so far
 abbrev pub values : List Gate → List Bool → List Bool → List Bool
 values [] flips vs = vs

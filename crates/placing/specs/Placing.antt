@@ -28,7 +28,7 @@ abbrev pub passed : (ℕ → List ℕ) → ℕ → List ℕ → ℕ → ℕ → 
 passed S n place j zero = 0
 passed S n place j (suc k) = cond (ready S n place j) 0 (suc (passed S n place (suc j) k))
 
--- of those whose sources are all placed, the earliest in the text is placed next: q gates are placed, f at most are still to place
+-- gates are placed one by one, each time the first in the text that is ready: q of them are placed, f at most are still to place
 abbrev pub placing : (ℕ → List ℕ) → ℕ → ℕ → ℕ → ℕ → List ℕ → List ℕ
 placing S n g zero q place = place
 placing S n g (suc f) q place =
@@ -42,7 +42,7 @@ placingOrder S n g (suc f) q place =
     (passed S n place 0 g ∷ placingOrder S n g f (suc q) (set place (passed S n place 0 g) (suc q)))
     []
 
--- gate j reads gate i; a gate depends on the gates that it reads and on all that those depend on
+-- gate j reads gate i; dependence is what follows from reading, in one step or more
 abbrev pub Reads : (ℕ → List ℕ) → ℕ → ℕ → ℕ → Type 0
 Reads S n j i = List·Memᴰ (n + i) (S j)
 

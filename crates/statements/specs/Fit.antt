@@ -1,4 +1,4 @@
--- The statements of the subset and their order, document 01, "The text that Card 4 of document 02 reads": refusal 18.
+-- The statements of the subset and their order, document 01's section on the text of card 4: refusal 18.
 use Prim.Native.Nat.{ℕ, _+_, _-_}
 use mathlib.Core.Bool.{Bool, true, false, cond}
 use mathlib.Core.List.{List, [], _∷_}
@@ -74,7 +74,7 @@ afterGate ws =
 unfoldable pub afterEnd : ℕ → Phase
 afterEnd further = cond (eqb further 0) Ended Misfit
 
--- a cover's lines all end in the same value
+-- a cover has one ending: that of its first line
 unfoldable pub afterValue : ℕ → ℕ → ℕ → Phase
 afterValue width ending x = cond (eqb x 2) Misfit (cond (eqb ending 2) (Cover width x) (cond (eqb ending x) (Cover width x) Misfit))
 
@@ -114,7 +114,7 @@ fitAs (Cover width ending) key w ws = afterCover width ending key w ws
 fitAs Ended key w ws = Misfit
 fitAs Misfit key w ws = Misfit
 
--- only a line's first word is a keyword
+-- a word is a keyword at the front of a line alone
 abbrev pub fit : Phase → List (List ℕ) → Phase
 fit p [] = Misfit
 fit p (w ∷ ws) = fitAs p (keywordOf w) w ws

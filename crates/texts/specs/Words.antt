@@ -20,7 +20,7 @@ mostWords = 16_384
 unfoldable pub blank : ℕ → Bool
 blank b = cond (eqb b 32) true (cond (eqb b 9) true (eqb b 13))
 
--- a backslash straight before the LF joins the next line on
+-- a backslash whose next byte is the LF joins two lines
 unfoldable pub joins : ℕ → ℕ → Bool
 joins b next = cond (eqb b 92) (eqb next 10) false
 

@@ -1,5 +1,5 @@
 //! The book: what is current and exact after a list of calls. It sees the calls' arguments and the
-//! lent area's length, and never a word of the area or an answer.
+//! lent area's length; it is shown neither the area's words nor what calls have answered.
 
 use crate::compare::Call;
 use crate::counts;

@@ -163,7 +163,7 @@ fn blanks_comments_and_joined_lines() {
     // Joining parts words.
     refused(gates(".na\\\nmes a b z\n11 1\n.end"), 18, 4);
     refused(gates(".names a b z\n1\\\n1 1\n.end"), 18, 5);
-    // A joined line has the number of its first, and the next line that of its own.
+    // Joined lines are told by the first of them, and the line after them by its own number.
     refused(".model\\\nm\n\\\n\\\n.latch\n", 18, 3);
     refused(".model\\\nm\n.inputs\\\na\\\nb\n\n.latch\n", 18, 7);
     refused(".model\\\nm\n.inputs a\n.outputs \\\n\\\n q\n.end", 19, 4);
