@@ -1,7 +1,7 @@
 -- Each gate of the placing order is the earliest that can come next. Assumes nothing.
 use Prim.Native.Nat.{ℕ, zero, suc, _+_, _-_, _<_, _≤_}
 use mathlib.Core.Path.{_≡_, refl, ap, sym, subst, _∙_}
-use mathlib.Core.Bool.{Bool, true, false, cond}
+use mathlib.Core.Bool.{Bool, true, false}
 use mathlib.Core.List.{List, [], _∷_, _++_, append-assoc, List·Memᴰ, List·Memᴰ·head, List·Memᴰ·tail}
 use mathlib.Core.Logic.{⊎-elim}
 use native.Mathlib.Nat.{eq-or-lt-of-le, add-zero, zero-add}
@@ -10,15 +10,11 @@ use native.Mathlib.Omega.{arith}
 use lib.ListN.{length, getD, set, length-set, length-append, List·getD-append}
 use lib.Seq.{getD-set-same, getD-set-other, getD-append-add}
 use lib.Dec.{eqb, ltb}
-use borrow.Author.Tests.{eq-eqb, ne-eqb, eqb-true, ltb-true, ltb-false, lt-ltb, le-ltb, not-true}
+use borrow.Author.Tests.{eq-eqb, ne-eqb, eqb-true, ltb-true, ltb-false}
 use Rattle.area.specs.Layout.{mostGates}
-use Rattle.placing.specs.Placing.{placedSource, allPlaced, ready, passed, placingOrder, Reads, CanFollow, Earliest}
+use Rattle.placing.specs.Placing.{placedSource, allPlaced, ready, passed, placingOrder, CanFollow, Earliest}
 use Rattle.placing.proofs.Placed.{all-placed}
 use Rattle.placing.proofs.Search.{found-ready}
-
-positive : (x : ℕ) → (x ≡ 0 → ⊥) → 0 < x
-positive zero e = absurd (e refl)
-positive (suc x) e = omega arith
 
 -- the sources of a gate whose gate sources are placed
 sources-placed : (n : ℕ) (place ds : List ℕ) → ((i : ℕ) → List·Memᴰ (n + i) ds → 0 < getD place i 0) → allPlaced n place ds ≡ true

@@ -1,5 +1,5 @@
 -- `covers::all_rows` meets its contract. Assumes nothing.
-use Prim.Native.Nat.{ℕ, _+_, _^_}
+use Prim.Native.Nat.{ℕ, _^_}
 use mathlib.Core.Path.{_≡_, sym, ap}
 use native.Mathlib.Omega.{arith}
 use Rattle.covers.proofs.all_rows.Statement.{statement}

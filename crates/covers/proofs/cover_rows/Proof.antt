@@ -4,7 +4,7 @@ use mathlib.Core.Path.{_≡_, refl, ap, sym, _∙_}
 use native.Mathlib.Omega.{arith}
 use mathlib.Core.List.{List}
 use lib.Bits.{bitOr}
-use lib.ListN.{getD, drop}
+use lib.ListN.{drop}
 use Rattle.texts.specs.Words.{wordOf}
 use Rattle.model.specs.Model.{coverOf}
 use Rattle.model.specs.Tables.{restAt, linesFrom}
@@ -12,7 +12,6 @@ use Rattle.model.proofs.Runs.{shorter, lines-end}
 use Rattle.covers.specs.Cover.{meets, someMeets, tableOf}
 use Rattle.covers.proofs.Rows.{rows-end}
 use Rattle.covers.proofs.Cover.{cover-over, rows-turn}
-use borrow.Author.Needs.{needs}
 use Rattle.covers.proofs.cover_rows.Statement.{statement}
 use Rattle.covers.proofs.cover_rows.Tie as tie
 

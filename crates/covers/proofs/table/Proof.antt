@@ -1,10 +1,10 @@
 -- `covers::table` meets its contract. Assumes nothing.
-use Prim.Native.Nat.{_+_, _-_, _^_, _<_, _≤_}
-use mathlib.Core.Path.{_≡_, refl, ap, sym, _∙_}
+use Prim.Native.Nat.{_-_}
+use mathlib.Core.Path.{ap, sym, _∙_}
 use native.Mathlib.Omega.{arith}
 use Rattle.model.specs.Model.{coverOf}
 use Rattle.model.specs.Tables.{linesFrom}
-use Rattle.covers.specs.Cover.{someMeets, tableOf, coverTable}
+use Rattle.covers.specs.Cover.{someMeets}
 use Rattle.covers.proofs.Rows.{higher, rows-below, ends-in-one, ends-in-zero}
 use Rattle.covers.proofs.table.Statement.{statement}
 use Rattle.covers.proofs.table.Tie as tie
