@@ -39,12 +39,14 @@
  * The caller owns the area and lends it to each call. An opened netlist with G gates and K outputs
  * takes BENCH_WORDS(G, K) words, and BENCH_WORDS_MAX are enough for every netlist. The words:
  *
- *     0 inputs   1 gates   2 outputs   3 pattern   4 reliability   5 to 7 zero
+ *     0 inputs   1 gates   2 outputs   3 pattern   4 reliability
+ *     5 and 6 the raw flip sum, low 32 bits first   7 zero
  *     then eight a gate: pin count, truth table, four pins, flip units, 2 * failure + right value
  *     then one a output: its source
  *
- * Words past these are never written. Bit i of the pattern is input i. The library keeps nothing
- * between two calls: an area may be copied, stored, and used again later.
+ * The raw flip sum is that of the live gates' flip units, as opening and setting flips have left them;
+ * BENCH_FLIP_SUM(area) reads it. Words past these are never written. Bit i of the pattern is input i.
+ * The library keeps nothing between two calls: an area may be copied, stored, and used again later.
  *
  *
  * THE IMAGE
@@ -130,7 +132,7 @@ extern "C" {
 #endif
 
 /* Raised with every change to a function, a number, a layout or a figure that this file speaks of. */
-#define BENCH_VERSION 4
+#define BENCH_VERSION 5
 
 #define BENCH_ONE UINT32_C(1073741824)
 #define BENCH_INPUTS_MAX 12
@@ -144,6 +146,7 @@ extern "C" {
 #define BENCH_BLIF_IMAGE_MAX 20624
 #define BENCH_WORDS(gates, outputs) (8 + 8 * (size_t)(gates) + (size_t)(outputs))
 #define BENCH_WORDS_MAX BENCH_WORDS(BENCH_GATES_MAX, BENCH_OUTPUTS_MAX)
+#define BENCH_FLIP_SUM(area) ((area)[5] | (uint64_t)(area)[6] << 32)
 
 #define BENCH_FLIP_NEVER 0
 #define BENCH_FLIP_CHANCE 1

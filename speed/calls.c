@@ -54,17 +54,37 @@ static int c_gate_bad(uint32_t count, uint32_t table, const uint32_t *pins, uint
     return 0;
 }
 
-__attribute__((noinline)) static int c_judge(const uint32_t *a, size_t len) {
+/* the raw flip sum in one way back; live[s] is set where source s has a live reader */
+static uint64_t c_sum(const uint32_t *a, uint8_t *live) {
+    uint64_t sum = 0;
+    for (uint32_t k = 0; k < a[2]; k++) live[a[8 + 8 * a[1] + k]] = 1;
+    for (uint32_t j = a[1]; j-- > 0;) {
+        const uint32_t *g = a + 8 + 8 * j;
+        if (!live[a[0] + j]) continue;
+        sum += g[6];
+        for (uint32_t i = 0; i < g[0]; i++) live[g[2 + i]] = 1;
+    }
+    return sum;
+}
+
+static void c_store_sum(uint32_t *a, uint64_t sum) { a[5] = (uint32_t)sum, a[6] = (uint32_t)(sum >> 32); }
+
+static int c_judge_live(const uint32_t *a, size_t len, uint8_t *live) {
     if (len < 8) return 13;
     if (a[0] > 12 || a[1] > 1024 || a[2] < 1 || a[2] > 64) return 14;
     if (len < 8 + 8 * (size_t)a[1] + a[2]) return 13;
-    if (a[5] || a[6] || a[7] || a[3] >= 1u << a[0] || a[4] > U) return 14;
+    if (a[7] || a[3] >= 1u << a[0] || a[4] > U) return 14;
     for (uint32_t j = 0; j < a[1]; j++) {
         const uint32_t *g = a + 8 + 8 * j;
         if (c_gate_bad(g[0], g[1], g + 2, a[0] + j) || g[6] > U || g[7] > 2 * U + 1) return 14;
     }
     for (uint32_t k = 0; k < a[2]; k++) if (a[8 + 8 * a[1] + k] >= a[0] + a[1]) return 14;
-    return 0;
+    return c_sum(a, live) == (a[5] | (uint64_t)a[6] << 32) ? 0 : 14;
+}
+
+__attribute__((noinline)) static int c_judge(const uint32_t *a, size_t len) {
+    uint8_t live[1036] = {0};
+    return c_judge_live(a, len, live);
 }
 
 static void c_dependents(uint32_t *a, uint8_t *mark, uint32_t from) {
@@ -105,12 +125,14 @@ static int c_units(uint8_t kind, uint64_t field, uint32_t *units) {
 }
 
 __attribute__((noinline)) static uint64_t c_set(uint32_t *a, size_t len, uint32_t gate, uint8_t kind, uint64_t field) {
-    int no = c_judge(a, len);
+    uint8_t live[1036] = {0};
+    int no = c_judge_live(a, len, live);
     uint32_t units;
     if (no) return (uint64_t)no << 32;
     if (gate >= a[1]) return 10ull << 32 | gate;
     if (!c_units(kind, field, &units)) return 11ull << 32 | gate;
     uint8_t mark[1036] = {0};
+    if (live[a[0] + gate]) c_store_sum(a, (a[5] | (uint64_t)a[6] << 32) - a[8 + 8 * gate + 6] + units);
     a[8 + 8 * gate + 6] = units;
     c_gate(a, gate);
     mark[a[0] + gate] = 1;
@@ -152,7 +174,9 @@ __attribute__((noinline)) static uint64_t c_open(uint32_t *a, size_t len, const 
     for (uint32_t j = 0; j < g; j++) if (readers[n + j] > 1) return 9ull << 32 | j;
     if (len < 8 + 8 * (size_t)g + k) return 13ull << 32;
     memcpy(a, w, 4 * (8 + 8 * (size_t)g + k));
-    for (uint32_t j = 0; j < g; j++) c_gate(a, j), count += readers[n + j] > 0;
+    uint64_t sum = 0;
+    for (uint32_t j = 0; j < g; j++) c_gate(a, j), count += readers[n + j] > 0, sum += readers[n + j] ? a[8 + 8 * j + 6] : 0;
+    c_store_sum(a, sum);
     a[4] = c_reliability(a);
     *live = count;
     return 0;

@@ -57,6 +57,7 @@ static void calls(void) {
     uint32_t weights[4] = {1, BENCH_WEIGHT_MAX, 1, 1}, live, units;
     uint64_t strike = UINT64_C(0x3F0000003F800000); /* 1 times 0.5 */
     expect("the whole image", damaged(OUTPUT, 4), 0, 0);
+    if (BENCH_FLIP_SUM(area) != BENCH_ONE) exit(printf("header: BENCH_FLIP_SUM is not that of two chances of 0.5\n"));
     expect("BENCH_FLIP_STRIKE", bench_set_flip(area, BENCH_WORDS(3, 1), 0, BENCH_FLIP_STRIKE, strike), 0, 0);
     expect("BENCH_WEIGHT_MAX", bench_average(area, BENCH_WORDS(3, 1), weights, 4, &units), 0, 0);
     weights[1]++;

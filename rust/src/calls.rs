@@ -75,6 +75,8 @@ pub struct NetlistReading {
     pub units: u32,
     /// The same: exactly `units` / 2^30.
     pub reliability: f64,
+    /// The flip units of the live gates, added up.
+    pub flip_sum: u64,
 }
 
 /// What one gate reads as.
@@ -127,11 +129,16 @@ pub fn set_flip(area: &mut [u32], gate: u32, flip: Flip) -> Result<(), Refusal> 
     answer(returned, ())
 }
 
-/// Reads the pattern and the reliability.
+/// Reads the pattern, the reliability and the raw flip sum. An area whose sum is not that of its gates
+/// is refused with 14, so the sum read is true.
 ///
 /// Refused in this order: 13, 14.
 pub fn read_netlist(area: &[u32]) -> Result<NetlistReading, Refusal> {
-    let mut read = NetlistReading { pattern: 0, units: 0, reliability: 0.0 };
+    let flip_sum = match area {
+        [_, _, _, _, _, low, high, ..] => u64::from(*low) | u64::from(*high) << 32,
+        _ => 0, // refused below
+    };
+    let mut read = NetlistReading { pattern: 0, units: 0, reliability: 0.0, flip_sum };
     // SAFETY: the slice goes with its own length, and the three results outlive the call.
     let returned = unsafe {
         c::bench_read_netlist(

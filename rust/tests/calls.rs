@@ -34,7 +34,7 @@ fn refused<T: std::fmt::Debug>(
 #[test]
 fn open_toggle_set_read_average() {
     let mut area = opened();
-    assert_eq!(area[..8], [2, 3, 1, 0, 805_306_368, 0, 0, 0]);
+    assert_eq!(area[..8], [2, 3, 1, 0, 805_306_368, ONE, 0, 0]);
     assert_eq!(area[WORDS], UNTOUCHED);
     assert_eq!(average(&mut area, &[1; 4]), Ok(671_088_640));
     assert_eq!(average(&mut area, &[0, 0, 0, MAX_WEIGHT]), Ok(ONE / 4));
@@ -46,7 +46,22 @@ fn open_toggle_set_read_average() {
     toggle_input(&mut area, 1).expect("input 1");
     let read = read_netlist(&area).expect("a netlist");
     assert_eq!((read.pattern, read.units, read.reliability), (3, ONE / 4, 0.25));
+    assert_eq!(read.flip_sum, u64::from(ONE));
     assert_eq!(area[WORDS], UNTOUCHED);
+}
+
+#[test]
+fn a_sum_that_passes_32_bits() {
+    let mut chain = String::from("inputs 1\ngate g0 2 pins 0 chance 0.5\n");
+    for g in 1..9 {
+        chain += &format!("gate g{g} 2 pins g{} chance 0.5\n", g - 1);
+    }
+    let module = text::read(&(chain + "output g8")).expect("a chain");
+    let mut area = vec![0; words(9, 1)];
+    open(&mut area, &module.image).expect("an image");
+    assert_eq!(read_netlist(&area).expect("a netlist").flip_sum, 9 * u64::from(ONE / 2));
+    area[6] = 0;
+    assert_eq!(read_netlist(&area).map_err(|r| r.number), Err(14));
 }
 
 #[test]

@@ -1,3 +1,4 @@
 pub mod Words
 pub mod EachPin
 pub mod Net
+pub mod Sum

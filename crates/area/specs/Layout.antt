@@ -48,7 +48,7 @@ largestWeight = 1_048_575
 abbrev pub mostListed : ℕ
 mostListed = 4096
 
--- ---- the head: n, G, K, pattern, reliability, three reserved words
+-- ---- the head: n, G, K, pattern, reliability, the raw flip sum in two words, a reserved word
 
 abbrev pub headWords : ℕ
 headWords = 8
@@ -74,14 +74,20 @@ reliabilityIndex = 4
 abbrev pub reliabilityWord : List ℕ → ℕ
 reliabilityWord ws = getD ws reliabilityIndex 0
 
-abbrev pub reservedFirst : List ℕ → ℕ
-reservedFirst ws = getD ws 5 0
+abbrev pub sumLowIndex : ℕ
+sumLowIndex = 5
 
-abbrev pub reservedSecond : List ℕ → ℕ
-reservedSecond ws = getD ws 6 0
+abbrev pub sumLowWord : List ℕ → ℕ
+sumLowWord ws = getD ws sumLowIndex 0
 
-abbrev pub reservedThird : List ℕ → ℕ
-reservedThird ws = getD ws 7 0
+abbrev pub sumHighIndex : ℕ
+sumHighIndex = 6
+
+abbrev pub sumHighWord : List ℕ → ℕ
+sumHighWord ws = getD ws sumHighIndex 0
+
+abbrev pub reservedWord : List ℕ → ℕ
+reservedWord ws = getD ws 7 0
 
 -- ---- gate j's eight words: pin count, table, four pins, flip units, 2 × failure + right value
 

@@ -1,4 +1,5 @@
 pub mod Layout
+pub mod Net
+pub mod Sum
 pub mod Rules
 pub mod Figures
-pub mod Net

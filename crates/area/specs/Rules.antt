@@ -10,8 +10,9 @@ use Rattle.refusal.specs.declared.Judgement.{Judgement}
 use Rattle.refusal.specs.Judgement.{refuseUnless, otherwise}
 use Rattle.rounding.specs.Rounding.{unitsInOne}
 use Rattle.area.specs.Layout.{mostPins, mostInputs, mostGates, mostOutputs, largestFlip, largestFigure}
-use Rattle.area.specs.Layout.{headWords, inputs, gates, outputs, pattern, reliabilityWord, reservedFirst, reservedSecond, reservedThird}
+use Rattle.area.specs.Layout.{headWords, inputs, gates, outputs, pattern, reliabilityWord, sumLowWord, sumHighWord, reservedWord}
 use Rattle.area.specs.Layout.{pinCount, table, pins, flip, figure, outputWords, needed}
+use Rattle.area.specs.Sum.{flipSum, lowBits, highBits}
 
 -- rule 5: at most four pins, no table bit at or above 2^a, every unused pin zero
 unfoldable pub gateShape : ℕ → ℕ → List ℕ → Bool
@@ -34,27 +35,31 @@ gateSound ws j =
 unfoldable pub gatesSound : List ℕ → Bool
 gatesSound ws = everyFrom (gateSound ws) 0 (gates ws)
 
--- rule 14: the reserved words are zero
-unfoldable pub reservedRight : List ℕ → Bool
-reservedRight ws = eqb (reservedFirst ws) 0 && (eqb (reservedSecond ws) 0 && eqb (reservedThird ws) 0)
-
--- rule 14 but for the counts: gates, outputs below n + G, pattern below 2^n, reliability at most U, reserved words
+-- rule 14 but for the counts and the sum: gates, outputs below n + G, pattern below 2^n, reliability at most U
 unfoldable pub restSound : List ℕ → Bool
 restSound ws =
     gatesSound ws
     && (allBelow (inputs ws + gates ws) (outputWords ws)
-    && (ltb (pattern ws) (2 ^ inputs ws) && (leb (reliabilityWord ws) unitsInOne && reservedRight ws)))
+    && (ltb (pattern ws) (2 ^ inputs ws) && leb (reliabilityWord ws) unitsInOne))
+
+-- rule 14, last: two words hold the raw flip sum, and the reserved word is zero
+unfoldable pub sumRight : List ℕ → Bool
+sumRight ws = eqb (sumLowWord ws) (lowBits (flipSum ws)) && (eqb (sumHighWord ws) (highBits (flipSum ws)) && eqb (reservedWord ws) 0)
 
 -- 13 by counts: room for G gates and K outputs in an area of `size` words
 abbrev pub roomJudgement : ℕ → ℕ → ℕ → Judgement
 roomJudgement g k size = refuseUnless (leb (needed g k) size) 13 0
 
 -- refusals 13 and 14 of an area in their order: fewer than 8 words, counts out of range, too short by its counts, the rest
-unfoldable pub areaJudgement : List ℕ → Judgement
-areaJudgement ws =
+unfoldable pub wordsJudgement : List ℕ → Judgement
+wordsJudgement ws =
     otherwise (refuseUnless (leb headWords (length ws)) 13 0)
     (otherwise (refuseUnless (countsInRange (inputs ws) (gates ws) (outputs ws)) 14 0)
     (otherwise (roomJudgement (gates ws) (outputs ws) (length ws)) (refuseUnless (restSound ws) 14 0)))
+
+-- and the sum
+unfoldable pub areaJudgement : List ℕ → Judgement
+areaJudgement ws = otherwise (wordsJudgement ws) (refuseUnless (sumRight ws) 14 0)
 
 -- ---- what is known of an area that passes
 
@@ -82,11 +87,11 @@ pub record FiguresSound (ws : List ℕ) : Type 0 where
   pub flip-fits : (j : ℕ) → j < gates ws → flip ws j ≤ largestFlip
   pub figure-fits : (j : ℕ) → j < gates ws → figure ws j ≤ largestFigure
 
--- the reserved words
-pub record ReservedSound (ws : List ℕ) : Type 0 where
-  pub first : reservedFirst ws ≡ 0
-  pub second : reservedSecond ws ≡ 0
-  pub third : reservedThird ws ≡ 0
+-- the sum and the reserved word
+pub record SumSound (ws : List ℕ) : Type 0 where
+  pub low : sumLowWord ws ≡ lowBits (flipSum ws)
+  pub high : sumHighWord ws ≡ highBits (flipSum ws)
+  pub reserved : reservedWord ws ≡ 0
 
 -- what working out needs
 pub record Workable (ws : List ℕ) : Type 0 where
@@ -96,4 +101,4 @@ pub record Workable (ws : List ℕ) : Type 0 where
 -- all of rule 14, and room
 pub record Sound (ws : List ℕ) : Type 0 where
   pub workable : Workable ws
-  pub reserved : ReservedSound ws
+  pub sum : SumSound ws

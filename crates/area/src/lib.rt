@@ -4,6 +4,7 @@ ghost use Prim.Native.Nat.{_+_, _<_, _≤_};
 ghost use lib.ListN.{length, getD, set};
 ghost use lib.Seq.{sets};
 ghost use Rattle.area.specs.Layout as layout;
+ghost use Rattle.area.specs.Sum.{storedSum};
 
 // Limits.
 pub const MOST_PINS: usize = 4;
@@ -46,11 +47,12 @@ pub const PATTERN: usize = 3;
 
 pub const RELIABILITY: usize = 4;
 
-pub const RESERVED_FIRST: usize = 5;
+// The raw flip sum, its low and its high 32 bits.
+pub const SUM_LOW: usize = 5;
 
-pub const RESERVED_SECOND: usize = 6;
+pub const SUM_HIGH: usize = 6;
 
-pub const RESERVED_THIRD: usize = 7;
+pub const RESERVED: usize = 7;
 
 // A gate's words, from its index on.
 pub const GATE_WORDS: usize = 8;
@@ -188,6 +190,15 @@ pub fn needed(gates: usize, outputs: usize) -> usize
     ensures { λ r. ⌜ r ≡ layout.needed gates outputs ⌝ }
 {
     HEAD_WORDS + GATE_WORDS * gates + outputs
+}
+
+// A sum in its two words.
+pub fn store_sum(area: &mut [u32], sum: u64)
+    requires { ⌜ layout.headWords ≤ length (now area) ⌝ }
+    ensures { λ _. ⌜ now (area .exit) ≡ storedSum (now (area .entry)) sum ⌝ }
+{
+    area[SUM_LOW] = (sum % 4_294_967_296) as u32;
+    area[SUM_HIGH] = (sum / 4_294_967_296) as u32;
 }
 
 // Stores values from `base` on.

@@ -7,6 +7,7 @@ use Rattle.refusal.specs.Judgement.{otherwise}
 use Rattle.area.specs.Layout.{gates, outputs, needed}
 use Rattle.area.specs.Rules.{roomJudgement}
 use Rattle.area.specs.Net.{netOf}
+use Rattle.area.specs.Sum.{flipSum, storedSum}
 use Rattle.work.specs.Work.{workAll}
 use Rattle.live.specs.Shared.{sharedJudgement}
 
@@ -17,4 +18,4 @@ unfoldable pub loadedJudgement : List ℕ → ℕ → Judgement
 loadedJudgement ws size = otherwise (sharedJudgement (netOf ws [] [])) (roomOf ws size)
 
 unfoldable pub loadedWords : List ℕ → List ℕ → List ℕ
-loadedWords ws area = workAll (take (needed (gates ws) (outputs ws)) ws ++ drop (needed (gates ws) (outputs ws)) area)
+loadedWords ws area = storedSum (workAll (take (needed (gates ws) (outputs ws)) ws ++ drop (needed (gates ws) (outputs ws)) area)) (flipSum ws)

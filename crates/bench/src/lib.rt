@@ -1,14 +1,15 @@
 // The calls of the bench. Each judges its input first: a refused call changes no word.
 ghost use mathlib.Core.Path.{_≡_};
-ghost use Prim.Native.Nat.{ℕ, _-_, _/_, _%_, _^_, _≤_, _<_};
+ghost use Prim.Native.Nat.{ℕ, _+_, _-_, _/_, _%_, _^_, _≤_, _<_};
 ghost use mathlib.Core.List.{List, [], _++_};
 ghost use lib.ListN.{length, getD, take, drop};
 ghost use Rattle.refusal.specs.Judgement.{otherwise, unlessRefused};
-ghost use Rattle.netlist.specs.Live.{liveGates};
+ghost use Rattle.netlist.specs.Live.{readers, liveGates};
 ghost use Rattle.area.specs.Net.{netOf};
+ghost use Rattle.area.specs.Sum.{flipSum};
 ghost use Rattle.area.specs.Layout as layout;
 ghost use Rattle.area.specs.Layout.{headWords, gates, outputs, needed, pattern, reliabilityWord, figure};
-ghost use Rattle.area.specs.Rules.{areaJudgement, NetSound, Workable};
+ghost use Rattle.area.specs.Rules.{wordsJudgement, areaJudgement, NetSound, Workable};
 ghost use Rattle.calls.specs.Judgements as judged;
 ghost use Rattle.calls.specs.Judgements.{open-image, toggle-input, set-flip, read-netlist, read-gate, take-average, count-seen, judgement};
 ghost use Rattle.calls.specs.Calls.{openLive, averageOf, left, countsLeft};
@@ -58,10 +59,12 @@ pub enum Counted {
     Refused(u8, u32),
 }
 
-// Refusal 13 of a loaded netlist that has passed 9; if it does not apply its words go into the area, and every figure is worked out.
-fn open_fitting(area: &mut [u32], words: &[u32], live: u32) -> Opened
+// Refusal 13 of a loaded netlist that has passed 9; if it does not apply its words go into the area, every figure is worked out, and the
+// raw flip sum is stored.
+fn open_fitting(area: &mut [u32], words: &[u32], live: u32, sum: u64) -> Opened
     requires { ⌜ NetSound (now words) ⌝ }
     requires { ⌜ ((rest : List ℕ) → Workable (take (needed (gates (now words)) (outputs (now words))) (now words) ++ rest)) ⌝ }
+    requires { ⌜ sum ≡ flipSum (now words) ⌝ }
     ensures { λ r. ⌜ r ≡ opened (roomOf (now (words .entry)) (length (now (area .entry)))) live ⌝ }
     ensures { λ _. ⌜ now (area .exit) ≡ unlessRefused (roomOf (now (words .entry)) (length (now (area .entry))))
         (loadedWords (now (words .entry)) (now (area .entry))) (now (area .entry)) ⌝ }
@@ -72,6 +75,7 @@ fn open_fitting(area: &mut [u32], words: &[u32], live: u32) -> Opened
     }
     area::store(area, 0, &words[..needed]);
     work::work_all(area);
+    area::store_sum(area, sum);
     Opened::Done(live)
 }
 
@@ -85,9 +89,13 @@ fn open_loaded(area: &mut [u32], words: &[u32]) -> Opened
 {
     let inputs = area::inputs(words);
     let gates = area::gates(words);
-    let readers = live::count_readers(words);
+    let counted = live::count_live(words);
+    let readers = counted.readers;
     match live::judge_shared(&readers, inputs, gates) {
-        Judgement::Fine => open_fitting(area, words, live::live_gates(&readers, inputs, gates)),
+        Judgement::Fine => {
+            let live = live::live_gates(&readers, inputs, gates);
+            open_fitting(area, words, live, counted.sum)
+        }
         Judgement::Refused(number, place) => Opened::Refused(number, place),
     }
 }
@@ -199,28 +207,77 @@ pub fn toggle_input(area: &mut [u32], input: u32) -> Toggled
     }
 }
 
-// The gate exists: refusal 11, else the flip is set.
-fn set_known_flip(area: &mut [u32], gate: u32, kind: u8, field: [u8; 8]) -> FlipSet
+// The last part of refusal 14 and refusal 10, of an area that has passed the others.
+fn judge_gate_summed(area: &[u32], gate: u32, sum: u64) -> Judgement
+    requires { ⌜ (wordsJudgement (now area) ≡ Judgement.Fine) × (sum ≡ flipSum (now area)) ⌝ }
+    ensures { λ r. ⌜ r ≡ judgement (now (area .entry)) (read-gate gate) ⌝ }
+{
+    match rules::judge_sum(area, sum) {
+        Judgement::Fine => judge_named(gate, area::gates(area)),
+        Judgement::Refused(number, place) => Judgement::Refused(number, place),
+    }
+}
+
+// The gate exists, and has so many live readers: refusal 11, else the flip is set, and with it the raw flip sum.
+fn set_known_flip(
+    area: &mut [u32],
+    gate: u32,
+    kind: u8,
+    field: [u8; 8],
+    live: u32,
+    sum: u64,
+) -> FlipSet
     requires { ⌜ judgement (now area) (read-gate gate) ≡ Judgement.Fine ⌝ }
+    requires { ⌜ (live ≡ readers (netOf (now area) [] []) (layout.inputs (now area) + gate)) × (sum ≡ flipSum (now area)) ⌝ }
     ensures { λ r. ⌜ r ≡ flipSet (judged.flipJudgement gate kind field) ⌝ }
     ensures { λ _. ⌜ now (area .exit) ≡ left (now (area .entry)) (set-flip gate kind field) ⌝ }
 {
     match chance::read_units(kind, field) {
         FlipUnits::Units(units) => {
+            let old = area::flip(area, area::index(gate));
             work::set_units(area, area::index(gate), units);
+            area::store_sum(area, live::changed_sum(sum, live, old, units));
             FlipSet::Done
         }
         FlipUnits::Refused => FlipSet::Refused(refusal::CALL_FLIP, gate),
     }
 }
 
-// Sets one gate's flip: works out again that gate, those that depend on it, and the reliability.
+// Sets a flip in an area that has passed all of 13 and 14 but for the sum.
+fn set_counted(
+    area: &mut [u32],
+    gate: u32,
+    kind: u8,
+    field: [u8; 8],
+    counted: &[u32; area::MOST_SOURCES],
+    sum: u64,
+) -> FlipSet
+    requires { ⌜ (wordsJudgement (now area) ≡ Judgement.Fine) × (sum ≡ flipSum (now area)) ⌝ }
+    requires { ⌜ ((s : ℕ) → getD (now counted) s 0 ≡ readers (netOf (now area) [] []) s) ⌝ }
+    ensures { λ r. ⌜ r ≡ flipSet (judgement (now (area .entry)) (set-flip gate kind field)) ⌝ }
+    ensures { λ _. ⌜ now (area .exit) ≡ left (now (area .entry)) (set-flip gate kind field) ⌝ }
+{
+    match judge_gate_summed(area, gate, sum) {
+        Judgement::Fine => {
+            let live = counted[area::inputs(area) + area::index(gate)];
+            set_known_flip(area, gate, kind, field, live, sum)
+        }
+        Judgement::Refused(number, place) => FlipSet::Refused(number, place),
+    }
+}
+
+// Sets one gate's flip: works out again that gate, those that depend on it, the reliability and the raw flip sum. Live readers are counted
+// once, for the judgement and for the sum.
 pub fn set_flip(area: &mut [u32], gate: u32, kind: u8, field: [u8; 8]) -> FlipSet
     ensures { λ r. ⌜ r ≡ flipSet (judgement (now (area .entry)) (set-flip gate kind field)) ⌝ }
     ensures { λ _. ⌜ now (area .exit) ≡ left (now (area .entry)) (set-flip gate kind field) ⌝ }
 {
-    match judge_gate(area, gate) {
-        Judgement::Fine => set_known_flip(area, gate, kind, field),
+    match rules::judge_words(area) {
+        Judgement::Fine => {
+            let counted = live::count_live(area);
+            let readers = counted.readers;
+            set_counted(area, gate, kind, field, &readers, counted.sum)
+        }
         Judgement::Refused(number, place) => FlipSet::Refused(number, place),
     }
 }

@@ -9,7 +9,7 @@ use Rattle.refusal.specs.declared.Judgement.{Judgement}
 use Rattle.refusal.specs.declared.Judgement.the-variants.{Fine, Refused}
 use Rattle.refusal.proofs.Laws.{Only, only-unless, only-otherwise}
 use Rattle.area.specs.Layout.{headWords, inputs, gates, outputs}
-use Rattle.area.specs.Rules.{countsInRange, restSound, areaJudgement}
+use Rattle.area.specs.Rules.{countsInRange, restSound, sumRight, wordsJudgement, areaJudgement}
 use Rattle.calls.specs.Judgements.{Call, open-image, toggle-input, set-flip, read-netlist, read-gate, take-average, count-seen}
 use Rattle.calls.specs.Judgements.{lentJudgement, judgement}
 use Rattle.calls.proofs.Judgements.{only-room, only-arguments, only-open}
@@ -20,12 +20,16 @@ use Rattle.bench_c.specs.Codes.{code}
 abbrev Positive : ℕ → Type 0
 Positive number = 0 < number
 
-of-area : (ws : List ℕ) → Only Positive (areaJudgement ws)
-unfolding areaJudgement
-of-area ws =
+of-words : (ws : List ℕ) → Only Positive (wordsJudgement ws)
+unfolding wordsJudgement
+of-words ws =
     only-otherwise Positive _ _ (only-unless Positive (leb headWords (length ws)) 13 0 (omega arith))
     (only-otherwise Positive _ _ (only-unless Positive (countsInRange (inputs ws) (gates ws) (outputs ws)) 14 0 (omega arith))
     (only-otherwise Positive _ _ (λ a p e. only-room (gates ws) (outputs ws) (length ws) a p e .0) (only-unless Positive (restSound ws) 14 0 (omega arith))))
+
+of-area : (ws : List ℕ) → Only Positive (areaJudgement ws)
+unfolding areaJudgement
+of-area ws = only-otherwise Positive _ _ (of-words ws) (only-unless Positive (sumRight ws) 14 0 (omega arith))
 
 of-lent : (ws : List ℕ) (call : Call) → Only Positive (lentJudgement ws call)
 unfolding lentJudgement

@@ -12,10 +12,13 @@ use Rattle.chance.specs.Number.{chanceScale}
 use Rattle.netlist.specs.Netlist.{Netlist}
 use Rattle.netlist.specs.WellFormed.{WellFormed}
 use Rattle.netlist.specs.Live.{SingleReaders}
+use Rattle.netlist.specs.Sum.{rawFlipSum}
 use Rattle.bound.proofs.Average.{reliability-bound}
 use Rattle.area.specs.Layout.{inputs, gates, pattern, needed, outputs}
 use Rattle.area.specs.Rules.{Sound, NetSound, roomJudgement}
 use Rattle.area.specs.Net.{netOf}
+use Rattle.area.specs.Sum.{flipSum, lowBits, highBits}
+use Rattle.area.proofs.Sum.{sum-held}
 use Rattle.area.proofs.Net.{sound-net, gate-count}
 use Rattle.fresh.specs.Fresh.{Fresh, Converted}
 use Rattle.book.specs.Book.{Book}
@@ -74,6 +77,11 @@ module _ (size : ℕ) (ws : List ℕ) (b : Book) (agree : Agree size ws b) where
       (subst (λ (held : Netlist). FiguresHeld chanceScale held (pattern ws) ws) (agree .held)
       (fresh-holds-netlist chanceScale ws (agree .kinds) (agree .chances) (agree .sound) (agree .fresh) (agree .converted)))
 
+  sum-is : flipSum ws ≡ rawFlipSum unitsInOne chanceScale (b .net)
+  sum-is =
+      sum-held unitsInOne chanceScale ws (agree .kinds) (agree .chances) (agree .converted .flips)
+      ∙ ap (rawFlipSum unitsInOne chanceScale) (agree .held)
+
   pub current : Current ws b
   current =
       record {
@@ -81,4 +89,5 @@ module _ (size : ℕ) (ws : List ℕ) (b : Book) (agree : Agree size ws b) where
             subst (λ (units : ℕ). WithinBound units b) (sym (figures-held .product))
             (reliability-bound unitsInOne chanceScale (omega arith) chance-scale-positive (b .net) well-formed (agree .single) (b .pattern));
         figures = figures-held;
+        sum = record { low = agree .sound .sum .low ∙ ap lowBits sum-is; high = agree .sound .sum .high ∙ ap highBits sum-is };
       }

@@ -19,11 +19,13 @@ use Rattle.netlist.specs.Seen.{seenCounts}
 use Rattle.netlist.proofs.Seen.{agreeing-counts}
 use Rattle.area.specs.Layout.{inputs, gates}
 use Rattle.work.specs.Work.{invertBit, toggleWords, setWords}
-use Rattle.work.proofs.Frame.{same-gates, same-toggle, same-set}
-use Rattle.work.proofs.Sound.{sound-toggle, sound-set}
+use Rattle.area.specs.Sum.{withSum}
+use Rattle.work.proofs.Frame.{same-gates, same-trans, same-toggle, same-set}
+use Rattle.work.proofs.Sound.{net-same, sound-toggle, sound-set}
 use Rattle.area.specs.Net.{netOf}
 use Rattle.area.proofs.Net.{sound-pins, same-single-readers, same-flip-counts}
 use Rattle.fresh.proofs.Calls.{toggle-net, toggle-pattern, toggle-fresh, toggle-converted, set-net, set-pattern, set-fresh, set-converted}
+use Rattle.fresh.proofs.Calls.{same-with-sum, with-sum-net, with-sum-pattern, with-sum-fresh, with-sum-converted}
 use Rattle.fresh.proofs.Unique.{fresh-fixed}
 use Rattle.calls.specs.Judgements.{open-image, toggle-input, set-flip, read-netlist, read-gate, take-average, count-seen}
 use Rattle.chance.specs.Flip.{flipUnits}
@@ -77,31 +79,36 @@ shown-toggle i =
 -- ---- setting a flip
 
 flip-set : (g kind : ℕ) (field : List ℕ) (size : ℕ) (ws : List ℕ) (b : Book) → Agree size ws b → g < gates ws → flipAccepted kind field ≡ true
-    → Agree size (setWords ws g (flipUnits kind field)) (entered b (set-flip g kind field))
+    → Agree size (withSum (setWords ws g (flipUnits kind field))) (entered b (set-flip g kind field))
 unfolding flipUnits
 flip-set g kind field size ws b agree l accepted =
     let units = flipUnits kind field in
     let chance = flipChance kind field in
-    let after = setWords ws g units in
+    let worked = setWords ws g units in
+    let after = withSum worked in
+    let same = same-trans ws worked after (same-set ws g units l) (same-with-sum worked) in
+    let net = net-same ws worked (agree .sound .workable .net) (same-set ws g units l) in
     let kinds = set (agree .kinds) g kind in
     let chances = set (agree .chances) g chance in
     let fits = flip-units-at-most kind field accepted in
-    let count : gates after ≡ gates ws = same-gates ws after (same-set ws g units l) in
+    let count : gates after ≡ gates ws = same-gates ws after same in
     let kind-each = agree .kind-each in
     let chance-each = agree .chance-each in
     let entry : netOf ws kinds chances ≡ withFlip (b .net) g kind chance
     = flip-net ws (agree .kinds) (agree .chances) g kind chance l kind-each chance-each
     ∙ ap (λ (net : Netlist). withFlip net g kind chance) (agree .held) in
     record {
-      long = same-set ws g units l .size ∙ agree .long;
+      long = same .size ∙ agree .long;
       kinds = kinds;
       chances = chances;
       kind-each = omega (arith, length-set (agree .kinds) g kind);
       chance-each = omega (arith, length-set (agree .chances) g chance);
       sound = sound-set ws g units (agree .sound) l fits;
-      fresh = set-fresh ws g units l (agree .sound .workable .net) (agree .fresh);
-      held = set-net ws g units l kinds chances ∙ entry;
-      converted = set-converted chanceScale ws (agree .chances) g chance (agree .sound .workable .net) l (omega arith) (agree .converted);
+      fresh = with-sum-fresh worked net (set-fresh ws g units l (agree .sound .workable .net) (agree .fresh));
+      held = with-sum-net worked kinds chances ∙ set-net ws g units l kinds chances ∙ entry;
+      converted =
+          with-sum-converted worked chanceScale chances
+          (set-converted chanceScale ws (agree .chances) g chance (agree .sound .workable .net) l (omega arith) (agree .converted));
       chances-fit =
           λ j k.
           by-cases (ℕ-discrete j g)
@@ -110,7 +117,7 @@ flip-set g kind field size ws b agree l accepted =
           (subst (λ (c : ℕ). c ≤ chanceScale) (sym (getD-set-same (agree .chances) g chance 0 (omega arith))) (flip-chance-at-most kind field accepted)))
           (λ other.
           subst (λ (c : ℕ). c ≤ chanceScale) (sym (getD-set-other (agree .chances) g j chance 0 other)) (agree .chances-fit j (omega arith)));
-      same-pattern = set-pattern ws g units l ∙ agree .same-pattern;
+      same-pattern = with-sum-pattern worked ∙ set-pattern ws g units l ∙ agree .same-pattern;
       single =
           subst SingleReaders entry
           (same-single-readers ws (agree .kinds) (agree .chances) kinds chances (subst SingleReaders (sym (agree .held)) (agree .single)));

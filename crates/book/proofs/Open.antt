@@ -8,16 +8,17 @@ use Rattle.refusal.specs.declared.Judgement.the-variants.{Fine}
 use Rattle.area.specs.Layout.{gates, needed}
 use Rattle.live.proofs.Shared.{shared-single}
 use Rattle.work.specs.Work.{workAll}
-use Rattle.work.proofs.Frame.{same-gates, same-work-all, work-all-pattern, work-all-flip}
-use Rattle.work.proofs.Sound.{sound-work-all}
+use Rattle.area.specs.Sum.{withSum}
+use Rattle.work.proofs.Frame.{same-gates, same-reserved, same-trans, same-work-all, work-all-pattern, work-all-flip}
+use Rattle.work.proofs.Sound.{workable-work-all, sound-with-sum}
 use Rattle.fresh.proofs.WorkAll.{work-all-fresh}
-use Rattle.fresh.proofs.Calls.{frame-net}
+use Rattle.fresh.proofs.Calls.{frame-net, same-with-sum, with-sum-fresh, with-sum-flip, with-sum-pattern}
 use Rattle.image.specs.Image.{imageGates, imageOutputs}
 use Rattle.image.specs.Loading.{imageWords, imageKinds, imageChances}
 use Rattle.image.specs.Netlist.{imageNet}
 use Rattle.image.proofs.Middle.{length-words}
 use Rattle.image.proofs.Words.{head-gates, head-pattern}
-use Rattle.image.proofs.Sound.{loaded-sound, length-kinds, length-chances, chances-fit, flips-at}
+use Rattle.image.proofs.Sound.{loaded-workable, loaded-reserved, length-kinds, length-chances, chances-fit, flips-at}
 use Rattle.image.proofs.Netlist.{image-net}
 use Rattle.calls.specs.Judgements.{openJudgement}
 use Rattle.calls.specs.Calls.{openWords}
@@ -38,9 +39,11 @@ opened bs ws e =
     let accepted = open-fine bs (length ws) e in
     let rest = drop (needed (imageGates bs) (imageOutputs bs)) ws in
     let before = imageWords bs ++ rest in
-    let after = workAll before in
-    let sound = loaded-sound bs rest (accepted .image) in
-    let same = same-work-all before in
+    let worked = workAll before in
+    let after = withSum worked in
+    let workable = loaded-workable bs rest (accepted .image) in
+    let ready = workable-work-all before workable in
+    let same = same-trans before worked after (same-work-all before) (same-with-sum worked) in
     let count : gates after ≡ imageGates bs = same-gates before after same ∙ head-gates bs rest in
     record {
       long = same .size ∙ opened-length bs ws (accepted .room);
@@ -48,11 +51,11 @@ opened bs ws e =
       chances = imageChances bs;
       kind-each = omega (arith, length-kinds bs);
       chance-each = omega (arith, length-chances bs);
-      sound = sound-work-all before sound;
-      fresh = work-all-fresh before (sound .workable .net);
+      sound = sound-with-sum worked ready (same-reserved before worked (same-work-all before) ∙ loaded-reserved bs rest);
+      fresh = with-sum-fresh worked (ready .net) (work-all-fresh before (workable .net));
       held = frame-net before after (imageKinds bs) (imageChances bs) same ∙ image-net bs rest;
-      converted = record { flips = λ j l. work-all-flip before j ∙ flips-at bs rest j (omega arith) };
+      converted = record { flips = λ j l. with-sum-flip worked j ∙ work-all-flip before j ∙ flips-at bs rest j (omega arith) };
       chances-fit = λ j l. chances-fit bs (accepted .image) j (omega arith);
-      same-pattern = work-all-pattern before ∙ head-pattern bs rest;
+      same-pattern = with-sum-pattern worked ∙ work-all-pattern before ∙ head-pattern bs rest;
       single = shared-single (imageNet bs) (accepted .shared);
     }

@@ -10,8 +10,10 @@ use Rattle.refusal.specs.declared.Judgement.the-variants.{Fine, Refused}
 use Rattle.refusal.specs.Judgement.{unlessRefused}
 use Rattle.chance.specs.Flip.{flipUnits}
 use Rattle.area.specs.Layout.{inputs, gates, outputs, needed}
-use Rattle.work.specs.Work.{workAll}
-use Rattle.work.proofs.Frame.{SameFrame, past-kept, same-refl, same-toggle, same-set, same-work-all}
+use Rattle.area.specs.Sum.{withSum}
+use Rattle.work.specs.Work.{workAll, setWords}
+use Rattle.work.proofs.Frame.{SameFrame, past-kept, same-refl, same-trans, same-toggle, same-set, same-work-all}
+use Rattle.fresh.proofs.Calls.{same-with-sum}
 use Rattle.image.specs.Image.{imageGates, imageOutputs}
 use Rattle.image.specs.Loading.{imageWords}
 use Rattle.image.proofs.Middle.{length-words}
@@ -31,7 +33,8 @@ unfolding openWords
 open-untouched bs ws e =
     let need = needed (imageGates bs) (imageOutputs bs) in
     let before = imageWords bs ++ drop need ws in
-    let same = same-work-all before in
+    let worked = workAll before in
+    let same = same-trans before worked (withSum worked) (same-work-all before) (same-with-sum worked) in
     record {
       size = same .size ∙ opened-length bs ws (open-fine bs (length ws) e .room);
       past =
@@ -39,7 +42,7 @@ open-untouched bs ws e =
           let k = i - need in
           let at : length (imageWords bs) + k ≡ i = omega (arith, length-words bs) in
           let back : need + k ≡ i = omega arith in
-          past-kept before (workAll before) same i (omega (arith, head-gates bs (drop need ws), head-outputs bs (drop need ws)))
+          past-kept before (withSum worked) same i (omega (arith, head-gates bs (drop need ws), head-outputs bs (drop need ws)))
           ∙ ap (λ (t : ℕ). getD before t 0) (sym at)
           ∙ getD-append-add (imageWords bs) (drop need ws) k 0
           ∙ getD-drop need ws k 0
@@ -51,7 +54,8 @@ work-untouched ws (open-image bs) e = open-untouched bs ws e
 work-untouched ws (toggle-input i) e = frame-untouched ws _ (same-toggle ws i)
 work-untouched ws (set-flip g kind field) e =
     let passed = set-fine (inputs ws) (gates ws) g kind field (lent-fine ws (set-flip g kind field) e .1) in
-    frame-untouched ws _ (same-set ws g (flipUnits kind field) (passed .0))
+    let worked = setWords ws g (flipUnits kind field) in
+    frame-untouched ws _ (same-trans ws worked (withSum worked) (same-set ws g (flipUnits kind field) (passed .0)) (same-with-sum worked))
 work-untouched ws read-netlist e = frame-untouched ws ws (same-refl ws)
 work-untouched ws (read-gate g) e = frame-untouched ws ws (same-refl ws)
 work-untouched ws (take-average weights) e = frame-untouched ws _ (same-work-all ws)

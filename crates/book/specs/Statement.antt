@@ -9,11 +9,13 @@ use Rattle.rounding.specs.Rounding.{unitsInOne, Near}
 use Rattle.chance.specs.Number.{chanceScale}
 use Rattle.netlist.specs.declared.Method.the-variants.{Flip}
 use Rattle.netlist.specs.Live.{liveGates}
+use Rattle.netlist.specs.Sum.{rawFlipSum}
 use Rattle.netlist.specs.Exact.{exactSum}
 use Rattle.netlist.specs.Average.{totalWeight, exactAverageSum}
 use Rattle.netlist.specs.Seen.{seenCounts}
 use Rattle.bound.specs.Statements.{denominator}
-use Rattle.area.specs.Layout.{gates, outputs, reliabilityWord, needed}
+use Rattle.area.specs.Layout.{gates, outputs, reliabilityWord, sumLowWord, sumHighWord, needed}
+use Rattle.area.specs.Sum.{lowBits, highBits}
 use Rattle.area.specs.Net.{netOf}
 use Rattle.fresh.specs.Statements.{FiguresHeld}
 use Rattle.image.specs.Image.{imageGates, imageOutputs}
@@ -38,11 +40,17 @@ AverageWithin units weights b =
     (2 * (units * totalWeight (b .net) weights * denominator chanceScale (b .net)))
     (2 * (unitsInOne * exactAverageSum chanceScale (b .net) weights))
 
--- what holds of an area's words between calls: word 4 is within the bound, and the right values, the failures and the reliability
--- held are those of the book's netlist for the book's pattern
+-- words 5 and 6 hold the low and the high 32 bits of the book's raw flip sum, its chances converted
+pub record SumHeld (ws : List ℕ) (b : Book) : Type 0 where
+  pub low : sumLowWord ws ≡ lowBits (rawFlipSum unitsInOne chanceScale (b .net))
+  pub high : sumHighWord ws ≡ highBits (rawFlipSum unitsInOne chanceScale (b .net))
+
+-- what holds of an area's words between calls: word 4 is within the bound, the right values, the failures and the reliability
+-- held are those of the book's netlist for the book's pattern, and so is the raw flip sum
 pub record Current (ws : List ℕ) (b : Book) : Type 0 where
   pub within : WithinBound (reliabilityWord ws) b
   pub figures : FiguresHeld chanceScale (b .net) (b .pattern) ws
+  pub sum : SumHeld ws b
 
 -- what is promised of the answer of a call that is not refused, by the book at that call
 abbrev pub AnswerKept : List ℕ → Book → Call → Type 0

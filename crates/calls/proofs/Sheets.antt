@@ -13,8 +13,9 @@ use Rattle.netlist.specs.Exact.{exactSum}
 use Rattle.netlist.specs.Live.{liveReads, readers, liveGates}
 use Rattle.netlist.specs.Seen.{flipSeen, sensitive, maskReads, maskSeen, seenCounts}
 use Rattle.area.specs.Rules.{gateShape, usedBelow, countsInRange}
+use Rattle.area.specs.Sum.{flipSum, withSum}
 use Rattle.area.specs.Figures.{gateWordFrom}
-use Rattle.work.specs.Work.{gateFigure, workGate, reliabilityNow, workReliability, workAll}
+use Rattle.work.specs.Work.{gateFigure, workGate, reliabilityNow, workReliability, workAll, setWords}
 use Rattle.live.specs.Shared.{sharedJudgement}
 use Rattle.image.specs.Image.{middle}
 use Rattle.image.specs.Refusals.{lengthRight, backRight, trailerRefusal, gateRefusal, outputRefusal, middleRefusal, imageRefusal}
@@ -28,8 +29,8 @@ pub sheets-hold : (ws : List ℕ) → SheetsHold ws
 unfolding
     readUnits flipUnits flipAccepted inRange fromZeroToOne ofBits flipChance flipOf chanceOf wholeChance chanceScale toUnits roundDiv blend
     openJudgement imageRefusal trailerRefusal lengthRight countsInRange backRight middleRefusal middle gateRefusal outputRefusal gateShape usedBelow
-    sharedJudgement readers liveReads liveGates imageNet recordChance recordUnits imageWords middleWords openLive openWords reliabilityFor averageOf
-    workAll workReliability reliabilityNow workGate gateFigure gateWordFrom gateWord gateFailure gateStep startValues difference answer outputStep
+    sharedJudgement readers liveReads liveGates imageNet recordChance recordUnits imageWords middleWords openLive openWords withSum flipSum reliabilityFor averageOf
+    setWords workAll workReliability reliabilityNow workGate gateFigure gateWordFrom gateWord gateFailure gateStep startValues difference answer outputStep
     exactSum rightValues flipSeen sensitive maskReads maskSeen seenCounts
 sheets-hold ws =
     record {
@@ -40,5 +41,7 @@ sheets-hold ws =
       averages-hold = refl;
       failures-hold = refl;
       exact-hold = refl;
+      sums-hold = refl;
+      resets-hold = refl;
       counts-hold = elim [ Flip ↦ refl | Mask ↦ refl ];
     }

@@ -11,15 +11,16 @@ use Rattle.netlist.specs.Live.{liveGates}
 use Rattle.netlist.specs.Seen.{seenCounts}
 use Rattle.area.specs.Layout.{inputs, gates, patternIndex, reliabilityWord, needed}
 use Rattle.area.specs.Net.{netOf}
+use Rattle.area.specs.Sum.{withSum}
 use Rattle.work.specs.Work.{workAll, toggleWords, setWords}
 use Rattle.image.specs.Image.{imageGates, imageOutputs}
 use Rattle.image.specs.Loading.{imageWords}
 use Rattle.image.specs.Netlist.{imageNet}
 use Rattle.calls.specs.Judgements.{Call, open-image, toggle-input, set-flip, read-netlist, read-gate, take-average, count-seen, judgement}
 
--- open: the image's words, pattern 0, every figure worked out; words past those needed are not touched
+-- open: the image's words, pattern 0, every figure worked out, and the raw flip sum; words past those needed are not touched
 unfoldable pub openWords : List ℕ → List ℕ → List ℕ
-openWords bs ws = workAll (imageWords bs ++ drop (needed (imageGates bs) (imageOutputs bs)) ws)
+openWords bs ws = withSum (workAll (imageWords bs ++ drop (needed (imageGates bs) (imageOutputs bs)) ws))
 
 -- what open answers: the number of live gates
 unfoldable pub openLive : List ℕ → ℕ
@@ -38,7 +39,7 @@ averageOf ws weights =
 abbrev pub work : List ℕ → Call → List ℕ
 work ws (open-image bs) = openWords bs ws
 work ws (toggle-input i) = toggleWords ws i
-work ws (set-flip g kind field) = setWords ws g (flipUnits kind field)
+work ws (set-flip g kind field) = withSum (setWords ws g (flipUnits kind field))
 work ws read-netlist = ws
 work ws (read-gate g) = ws
 work ws (take-average weights) = workAll ws

@@ -1,5 +1,6 @@
 -- Sheets with known results that are to be proved, as one table: document 01's conversions of chances and openings of images with what they come to; for
--- document 02, card 1, in how many listed patterns each gate's flip is seen; and for card 3 an exact half in each place that rounds, both ways.
+-- document 02, card 1, in how many listed patterns each gate's flip is seen; for card 3 an exact half in each place that rounds, both ways; and for card 5
+-- raw flip sums.
 -- `SheetsHold` says that the definitions give the table; proofs/Sheets.antt proves it.
 use Prim.Native.Nat.{ℕ, _+_, _-_, _*_, _/_, _%_, _^_}
 use mathlib.Core.List.{List, [], _∷_, _++_, map}
@@ -15,12 +16,12 @@ use Rattle.chance.specs.Flip.{readUnits}
 use Rattle.netlist.specs.declared.Method.{Method}
 use Rattle.netlist.specs.Exact.{exactSum}
 use Rattle.netlist.specs.Seen.{seenCounts}
-use Rattle.area.specs.Layout.{mostWords, inputs, gates, figure}
+use Rattle.area.specs.Layout.{mostWords, inputs, gates, sumLowWord, sumHighWord, figure}
 use Rattle.area.specs.Net.{netOf}
 use Rattle.image.specs.Image.{imageInputs, imageGates}
 use Rattle.image.specs.Netlist.{imageNet}
-use Rattle.calls.specs.Judgements.{openJudgement}
-use Rattle.calls.specs.Calls.{openWords, openLive, reliabilityFor, averageOf}
+use Rattle.calls.specs.Judgements.{openJudgement, set-flip}
+use Rattle.calls.specs.Calls.{openWords, openLive, reliabilityFor, averageOf, work}
 
 -- ---- fields: the eight bytes of a chance
 
@@ -135,6 +136,14 @@ underAnd first second = buffer 0 first ++ (buffer 0 second ++ (andGate 1 2 0 nev
 abbrev pub seenAtOne : List ℕ → List ℕ
 seenAtOne field = buffer 0 field ++ (andGate 0 1 0 never ++ (twoBytes (2 ∷ []) ++ trailer 1 2 1))
 
+-- a live gate, a dead one, and a live one that never flips
+abbrev pub mixedImage : List ℕ
+mixedImage = buffer 0 twentieth ++ (buffer 0 half ++ (gateRecord 1 2 1 0 0 never ++ (twoBytes (3 ∷ []) ++ trailer 1 3 1)))
+
+-- five buffers behind each other, the last of them with this flip, the others with chance 1
+abbrev pub longImage : List ℕ → List ℕ
+longImage last = buffer 0 one ++ (buffer 1 one ++ (buffer 2 one ++ (buffer 3 one ++ (buffer 4 last ++ (twoBytes (5 ∷ []) ++ trailer 1 5 1)))))
+
 -- ---- openings: how an image is judged and its live gates; and, unless it is refused, the reliability and the exact sum at each pattern in rising order,
 -- the average with all weights 1, and every gate's failure at pattern 0. The exact sums are fractions of `parts`.
 
@@ -217,6 +226,23 @@ countings =
     ∷ record { image = deadReaderImage; patterns = 0 ∷ 1 ∷ []; counts = 2 ∷ 2 ∷ 0 ∷ [] }
     ∷ []
 
+-- ---- raw flip sums: an image, and words 5 and 6 of the area that it is opened in, and those after gate 1's flip is set to chance 1
+
+pub record Summing : Type 0 where
+  pub image : List ℕ
+  pub opened : List ℕ
+  pub reset : List ℕ
+
+abbrev pub summings : List Summing
+summings =
+    record { image = printedImage; opened = 1_073_741_824 ∷ 0 ∷ []; reset = 1_610_612_736 ∷ 0 ∷ [] }
+    -- gate 0 is live, gate 1 dead, and gate 2 live and without a flip
+    ∷ record { image = mixedImage; opened = 53_687_091 ∷ 0 ∷ []; reset = 53_687_091 ∷ 0 ∷ [] }
+    -- five live gates pass 2^32, and four reach it
+    ∷ record { image = longImage one; opened = 1_073_741_824 ∷ 1 ∷ []; reset = 1_073_741_824 ∷ 1 ∷ [] }
+    ∷ record { image = longImage never; opened = 0 ∷ 1 ∷ []; reset = 0 ∷ 1 ∷ [] }
+    ∷ []
+
 -- ---- what the definitions give for each column
 
 -- the reliabilities at all patterns in rising order, everything worked out afresh for each
@@ -225,6 +251,9 @@ atPatterns ws = joined (λ (q : ℕ). reliabilityFor ws q ∷ []) (2 ^ inputs ws
 
 abbrev pub failuresHeld : List ℕ → List ℕ
 failuresHeld ws = joined (λ (j : ℕ). figure ws j / 2 ∷ []) (gates ws)
+
+abbrev pub sumWords : List ℕ → List ℕ
+sumWords ws = sumLowWord ws ∷ sumHighWord ws ∷ []
 
 -- the exact sums, times the parts; and fractions, times the exact sum's denominator
 abbrev pub exactAt : List ℕ → ℕ → List ℕ
@@ -250,6 +279,8 @@ pub record SheetsHold (ws : List ℕ) : Type 0 where
   pub exact-hold :
       map (λ (s : Opening). unlessRefused (s .judged) (exactAt (s .image) (s .parts)) []) openings
       ≡ map (λ (s : Opening). scaled (s .image) (s .exact)) openings
+  pub sums-hold : map (λ (s : Summing). sumWords (openWords (s .image) ws)) summings ≡ map (λ (s : Summing). s .opened) summings
+  pub resets-hold : map (λ (s : Summing). sumWords (work (openWords (s .image) ws) (set-flip 1 1 one))) summings ≡ map (λ (s : Summing). s .reset) summings
   pub counts-hold : (method : Method)
       → map (λ (s : Counting). seenCounts method (netOf (openWords (s .image) ws) [] []) (s .patterns)) countings
       ≡ map (λ (s : Counting). s .counts) countings

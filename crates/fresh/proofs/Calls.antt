@@ -8,19 +8,22 @@ use native.Mathlib.Omega.{arith}
 use lib.ListN.{length, getD, set, replicate, length-set, length-replicate}
 use lib.Seq.{getD-set-same, getD-set-other}
 use Rattle.rounding.specs.Rounding.{unitsInOne, toUnits}
-use Rattle.area.specs.Layout.{mostSources, inputs, gates, patternIndex, pattern, flipIndex, flip, figureIndex, figure, sourceWord}
+use Rattle.area.specs.Layout.{mostSources, inputs, gates, patternIndex, pattern, reliabilityIndex, flipIndex, flip, figureIndex, figure, sourceWord}
+use Rattle.area.specs.Layout.{sumLowIndex, sumHighIndex}
 use Rattle.area.specs.Rules.{NetSound}
 use Rattle.area.specs.Net.{netOf}
 use Rattle.area.proofs.Words.{few-sources}
+use Rattle.area.specs.Sum.{flipSum, withSum}
 use Rattle.area.proofs.Net.{same-net}
+use Rattle.area.proofs.Sum.{stored-other}
 use Rattle.work.specs.Work.{workGate, workMarked, markOf, invertBit, toggleWords, setWords}
-use Rattle.work.proofs.Frame.{SameFrame, same-inputs, same-gates, same-used-pins, same-table, same-output-words, same-trans}
-use Rattle.work.proofs.Frame.{same-store-pattern, same-store-flip, same-work-gate, same-walk, same-toggle, same-set}
-use Rattle.work.proofs.Frame.{work-gate-kept, marked-walk, set-walk, worked-kept, toggle-kept, set-kept, pattern-unworked, flip-unworked}
+use Rattle.work.proofs.Frame.{SameFrame, same-inputs, same-gates, frame-same-net, same-trans}
+use Rattle.work.proofs.Frame.{same-store-pattern, same-store-flip, same-store-sum, same-work-gate, same-walk, same-toggle, same-set}
+use Rattle.work.proofs.Frame.{work-gate-kept, marked-walk, worked-kept, toggle-kept, set-kept, pattern-unworked, flip-unworked}
 use Rattle.work.proofs.Pattern.{invert-other}
-use Rattle.work.proofs.Sound.{net-same}
+use Rattle.work.proofs.Sound.{net-same, set-flip, set-flip-other}
 use Rattle.fresh.specs.Fresh.{Fresh, Converted}
-use Rattle.fresh.proofs.Sources.{source-same, gate-figure-earlier, source-work-gate}
+use Rattle.fresh.proofs.Sources.{source-same, gate-figure-earlier, reliability-same, source-work-gate}
 use Rattle.fresh.proofs.WorkAll.{FreshAt, fresh-step, fresh-reliability}
 use Rattle.fresh.proofs.Sweep.{Swept, sweep-fresh}
 
@@ -34,14 +37,7 @@ mark-set s l = getD-set-same (replicate mostSources 0) s 1 0 (omega (arith, leng
 -- an area with the same frame holds the same netlist
 pub frame-net : (ws vs kinds chances : List ℕ) → SameFrame ws vs → netOf vs kinds chances ≡ netOf ws kinds chances
 frame-net ws vs kinds chances same =
-    same-net vs ws kinds chances
-    (record {
-      same-inputs = same-inputs ws vs same;
-      same-gates = same-gates ws vs same;
-      same-pins = λ j l. same-used-pins ws vs same j;
-      same-table = λ j l. same-table ws vs same j;
-      same-outputs = same-output-words ws vs same;
-    })
+    same-net vs ws kinds chances (frame-same-net ws vs same)
 
 module _ (ws : List ℕ) (i : ℕ) where
   -- the netlist and the flips stay, the pattern's bit i is inverted
@@ -101,15 +97,6 @@ module _ (ws : List ℕ) (g units : ℕ) (small : g < gates ws) where
   pub set-pattern : pattern (setWords ws g units) ≡ pattern ws
   set-pattern = set-kept ws g units .kept patternIndex (λ e. omega arith, pattern-unworked g _)
 
-  pub set-flip-other : (j : ℕ) → j ≢ g → flip (setWords ws g units) j ≡ flip ws j
-  set-flip-other j other = set-kept ws g units .kept (flipIndex j) (λ e. other (omega arith), flip-unworked g _ j)
-
-  pub set-flip : NetSound ws → flip (setWords ws g units) g ≡ units
-  unfolding setWords
-  set-flip net =
-      worked-kept (set-walk ws g units) .kept (flipIndex g) (flip-unworked g _ g)
-      ∙ getD-set-same ws (flipIndex g) units 0 (omega (arith, net .long))
-
   -- a flip is no source's word
   source-store-flip : (s : ℕ) → sourceWord (set ws (flipIndex g) units) s ≡ sourceWord ws s
   source-store-flip s =
@@ -165,6 +152,49 @@ module _ (ws : List ℕ) (g units : ℕ) (small : g < gates ws) where
       let again = same-gates first worked walk in
       fresh-reliability worked (net-same first worked (start .net) walk)
       (λ b below. sweep-fresh ws (fresh .figures) first marks (suc g) left (omega arith) start b (omega arith))
+
+-- ---- the sum stored: an area stays fresh, and keeps its netlist, pattern and flips
+
+module _ (ws : List ℕ) where
+  pub same-with-sum : SameFrame ws (withSum ws)
+  unfolding withSum
+  same-with-sum = same-store-sum ws (flipSum ws)
+
+  kept-word : (i : ℕ) → i ≢ sumLowIndex → i ≢ sumHighIndex → getD (withSum ws) i 0 ≡ getD ws i 0
+  unfolding withSum
+  kept-word i low high = stored-other ws (flipSum ws) i low high
+
+  pub with-sum-net : (kinds chances : List ℕ) → netOf (withSum ws) kinds chances ≡ netOf ws kinds chances
+  with-sum-net kinds chances = frame-net ws (withSum ws) kinds chances same-with-sum
+
+  pub with-sum-pattern : pattern (withSum ws) ≡ pattern ws
+  with-sum-pattern = kept-word patternIndex (λ e. omega arith) (λ e. omega arith)
+
+  pub with-sum-flip : (j : ℕ) → flip (withSum ws) j ≡ flip ws j
+  with-sum-flip j = kept-word (flipIndex j) (λ e. omega arith) (λ e. omega arith)
+
+  source-with-sum : (s : ℕ) → sourceWord (withSum ws) s ≡ sourceWord ws s
+  source-with-sum s =
+      source-same ws (withSum ws) (same-inputs ws (withSum ws) same-with-sum) s
+      (λ l. ap (λ (q : ℕ). q / 2 ^ s % 2) with-sum-pattern)
+      (λ j e. kept-word (figureIndex j) (λ q. omega arith) (λ q. omega arith))
+
+  pub with-sum-fresh : NetSound ws → Fresh ws → Fresh (withSum ws)
+  with-sum-fresh net fresh =
+      record {
+        figures = λ j l.
+            let inside : j < gates ws = omega (arith, same-gates ws (withSum ws) same-with-sum) in
+            kept-word (figureIndex j) (λ e. omega arith) (λ e. omega arith)
+            ∙ fresh .figures j inside
+            ∙ sym (gate-figure-earlier ws (withSum ws) net same-with-sum j inside (with-sum-flip j) (λ s k. source-with-sum s));
+        product = kept-word reliabilityIndex (λ e. omega arith) (λ e. omega arith)
+            ∙ fresh .product
+            ∙ sym (reliability-same ws (withSum ws) net same-with-sum (λ s l. source-with-sum s));
+      }
+
+  pub with-sum-converted : (d : ℕ) (chances : List ℕ) → Converted d ws chances → Converted d (withSum ws) chances
+  with-sum-converted d chances converted =
+      record { flips = λ j l. with-sum-flip j ∙ converted .flips j (omega (arith, same-gates ws (withSum ws) same-with-sum)) }
 
 -- ---- chances
 

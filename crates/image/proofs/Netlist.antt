@@ -4,15 +4,20 @@ use mathlib.Core.List.{List, [], _∷_, _++_, append-nil}
 use mathlib.Core.Path.{_≡_, refl, sym, ap, ap₂, subst, _∙_}
 use native.Mathlib.Omega.{arith}
 use lib.ListN.{length}
+use Rattle.rounding.specs.Rounding.{unitsInOne}
+use Rattle.chance.specs.Number.{chanceScale}
 use Rattle.netlist.specs.Netlist.{Netlist}
+use Rattle.netlist.specs.Sum.{rawFlipSum}
 use Rattle.area.specs.Net.{gateOf, gatesFrom, netOf}
+use Rattle.area.specs.Sum.{flipSum}
 use Rattle.area.proofs.Net.{gate-count}
+use Rattle.area.proofs.Sum.{sum-held}
 use Rattle.image.specs.Image.{imageInputs, imageGates, imageOutputs, middle}
 use Rattle.image.specs.Loading.{imageWords, imageKinds, imageChances}
 use Rattle.image.specs.Netlist.{recordGate, recordGates, imageNet}
 use Rattle.image.proofs.Middle.{length-outputs}
 use Rattle.image.proofs.Words.{head-inputs, head-gates, outputs-held, gate-held}
-use Rattle.image.proofs.Sound.{kind-at, chance-at}
+use Rattle.image.proofs.Sound.{kind-at, chance-at, flips-at}
 
 module _ (bs rest : List ℕ) where
   gate-net : (j : ℕ) → j < imageGates bs → gateOf (imageWords bs ++ rest) (imageKinds bs) (imageChances bs) j ≡ recordGate (middle bs) j
@@ -44,3 +49,9 @@ net-gates bs =
 pub net-outputs : (bs : List ℕ) → length (imageNet bs .outputs) ≡ imageOutputs bs
 unfolding imageNet
 net-outputs bs = length-outputs (middle bs) (imageGates bs) (imageOutputs bs)
+
+-- the raw flip sum is that of the image's netlist
+pub loaded-sum : (bs rest : List ℕ) → flipSum (imageWords bs ++ rest) ≡ rawFlipSum unitsInOne chanceScale (imageNet bs)
+loaded-sum bs rest =
+    sum-held unitsInOne chanceScale (imageWords bs ++ rest) (imageKinds bs) (imageChances bs) (λ j l. flips-at bs rest j (omega (arith, head-gates bs rest)))
+    ∙ ap (rawFlipSum unitsInOne chanceScale) (image-net bs rest)

@@ -1,4 +1,4 @@
--- An image without a refusal gives the words of a sound area, and chances of at most 1. Assumes nothing.
+-- An image without a refusal gives words that can be worked on, and chances of at most 1. Assumes nothing.
 use Prim.Native.Nat.{ℕ, _≤_, _<_}
 use mathlib.Core.List.{List, _++_}
 use mathlib.Core.Path.{_≡_, refl, sym, ap, _∙_}
@@ -9,8 +9,8 @@ use Rattle.rounding.specs.Rounding.{unitsInOne, toUnits}
 use Rattle.chance.specs.Number.{chanceScale}
 use Rattle.chance.specs.Flip.{flipUnits}
 use Rattle.chance.proofs.Laws.{flip-chance-at-most, flip-units-at-most}
-use Rattle.area.specs.Layout.{pins, flip, largestFlip}
-use Rattle.area.specs.Rules.{GateShaped, NetSound, FiguresSound, Sound}
+use Rattle.area.specs.Layout.{pins, flip, largestFlip, reservedWord}
+use Rattle.area.specs.Rules.{GateShaped, NetSound, FiguresSound, Workable}
 use Rattle.lists.proofs.Joined.{length-listed, listed-at}
 use Rattle.refusal.specs.declared.Judgement.the-variants.{Fine}
 use Rattle.image.specs.Image.{imageGates, imageOutputs, middle, recordKind, recordPins, recordField, outputAt}
@@ -62,15 +62,15 @@ module _ (bs rest : List ℕ) (right : ImageRight bs) where
         figure-fits = λ j l. rw (gate-held bs rest j l .no-figure) (omega arith);
       }
 
--- the words of an image that is not refused are those of a sound area, whatever follows them
-pub loaded-sound : (bs rest : List ℕ) → imageRefusal bs ≡ Fine → Sound (imageWords bs ++ rest)
-unfolding imageWords middleWords
-loaded-sound bs rest e =
+-- the words of an image that is not refused can be worked on, whatever follows them
+pub loaded-workable : (bs rest : List ℕ) → imageRefusal bs ≡ Fine → Workable (imageWords bs ++ rest)
+loaded-workable bs rest e =
     let right = image-right bs e in
-    record {
-      workable = record { net = net-sound bs rest right; figures = figures-sound bs rest right };
-      reserved = record { first = refl; second = refl; third = refl };
-    }
+    record { net = net-sound bs rest right; figures = figures-sound bs rest right }
+
+pub loaded-reserved : (bs rest : List ℕ) → reservedWord (imageWords bs ++ rest) ≡ 0
+unfolding imageWords middleWords
+loaded-reserved bs rest = refl
 
 -- kinds and chances, one a gate
 pub length-kinds : (bs : List ℕ) → length (imageKinds bs) ≡ imageGates bs

@@ -2,9 +2,9 @@
 use Prim.Native.Nat.{ℕ, zero, suc, _+_, _*_, _≤_, _<_}
 use mathlib.Core.Bool.{false, true≢false}
 use mathlib.Core.List.{List}
-use mathlib.Core.Logic.{⊎-elim, by-cases}
+use mathlib.Core.Logic.{_≢_, ⊎-elim, by-cases}
 use mathlib.Core.Path.{_≡_, refl, sym, ap, ap₂, _∙_}
-use native.Mathlib.Decide.{decLt}
+use native.Mathlib.Decide.{decLt, ℕ-discrete}
 use native.Mathlib.Nat.{eq-zero-or-pos, eq-or-lt-of-le, le-of-suc-le-suc}
 use native.Mathlib.Numerals.{add-one}
 use native.Mathlib.Omega.{arith}
@@ -83,3 +83,15 @@ some-sum xs e =
     (λ l. omega (arith, sum-term (λ i. getD xs i 0) (length xs) i l))
     (λ past. List·getD-eq-default xs 0 (omega arith))))
     ∙ e)))
+
+-- one term changed
+pub sum-changed : (F H : ℕ → ℕ) (g k : ℕ) → g < k → ((j : ℕ) → j < k → j ≢ g → F j ≡ H j) → sumBelow k F + H g ≡ sumBelow k H + F g
+sum-changed F H g zero l same = absurd (omega arith)
+sum-changed F H g (suc k) l same =
+    by-cases (ℕ-discrete g k)
+    (λ e.
+    let before = sum-same F H k (λ j m. same j (omega arith) (λ x. omega arith)) in
+    omega (arith, before, ap F e, ap H e))
+    (λ other.
+    let before = sum-changed F H g k (omega arith) (λ j m n. same j (omega arith) n) in
+    omega (arith, before, same k (omega arith) (λ x. other (sym x))))

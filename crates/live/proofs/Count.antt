@@ -11,10 +11,12 @@ use Rattle.lists.specs.Lists.{count}
 use Rattle.netlist.specs.Live.{isLive, withGate, liveReadsFrom, liveReads, readers}
 use Rattle.lists.proofs.Parts.{zeros-at}
 use Rattle.lists.proofs.Counts.{count-length}
-use Rattle.netlist.proofs.Live.{ifLive, count-with}
+use Rattle.netlist.proofs.Live.{ifLive, count-with, count-later}
 use Rattle.area.specs.Layout.{mostPins, mostGates, mostOutputs, mostSources}
 use Rattle.area.specs.Layout.{inputs, gates, outputs, pinCount, pins, usedPins, outputsIndex, outputWords}
 use Rattle.area.specs.Net.{gatesFrom, netOf}
+use Rattle.area.specs.Rules.{NetSound}
+use Rattle.area.proofs.Words.{used-below}
 use Rattle.live.specs.Counted.{Counts, Added, readsOf, gateReads}
 
 -- xs has at each source how often it stands in rs
@@ -44,6 +46,21 @@ reads-step ws j l =
     ∙ ap₂ (λ (s i : ℕ). withGate (inputs ws + j) (usedPins ws j) (liveReadsFrom (outputWords ws) s (gatesFrom ws [] [] i (gates ws - (j + 1)))))
     next
     (sym (add-one j))
+
+-- once the later gates are counted, a gate's readers are all there: it and the gates before it read earlier sources
+module _ (ws : List ℕ) (sound : NetSound ws) (j : ℕ) (l : j < gates ws) where
+  final : (d k : ℕ) → k + d ≡ j + 1 → count (inputs ws + j) (readsAfter ws k) ≡ count (inputs ws + j) (readsAfter ws (j + 1))
+  final zero k e = ap (λ (i : ℕ). count (inputs ws + j) (readsAfter ws i)) (omega arith)
+  final (suc d) k e =
+      ap (count (inputs ws + j)) (reads-step ws k (omega arith))
+      ∙ count-later (inputs ws + j) (inputs ws + k) (usedPins ws k) (readsAfter ws (k + 1)) (used-below ws sound k (omega arith)) (omega arith)
+      ∙ final d (k + 1) (omega arith)
+
+  pub all-counted : (xs : List ℕ) → CountsOf xs (readsAfter ws (j + 1)) → getD xs (inputs ws + j) 0 ≡ readers (netOf ws [] []) (inputs ws + j)
+  unfolding readers liveReads
+  all-counted xs h =
+      let all = final (j + 1) 0 (omega arith) in
+      h (inputs ws + j) ∙ sym (rw (sub-zero (gates ws), add-zero (inputs ws)) at all)
 
 -- a gate that has a reader, and one that has none
 pub live-added : (r : ℕ) (ps old new : List ℕ) → 0 < r → Added old ps new → Added old (readsOf r ps) new

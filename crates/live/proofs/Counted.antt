@@ -10,6 +10,7 @@ use Rattle.figure.specs.Figure.{bitOf}
 use Rattle.netlist.specs.Live.{isLive, liveReads, readers, liveAmong, liveGates}
 use Rattle.area.specs.Layout.{inputs, gates}
 use Rattle.area.specs.Net.{netOf}
+use Rattle.area.specs.Sum.{flipIf}
 use Rattle.area.proofs.Net.{gate-count, same-live-gates}
 use Rattle.live.specs.Counted.{liveCounted}
 use Rattle.live.proofs.Count.{CountsOf}
@@ -17,6 +18,13 @@ use Rattle.live.proofs.Count.{CountsOf}
 has-reader : (r : ℕ) → 0 < r → isLive r ≡ true
 has-reader zero l = absurd (omega arith)
 has-reader (suc r) l = refl
+
+-- what a gate adds to the raw flip sum
+pub flip-live : (r units : ℕ) → 0 < r → flipIf r units ≡ units
+flip-live r units l = rw (has-reader r l)
+
+pub flip-dead : (r units : ℕ) → r ≡ 0 → flipIf r units ≡ 0
+flip-dead r units e = rw e
 
 -- what is left of the loop over gates: at gate g of k, the first of which is source n, and at the end
 module _ (xs : List ℕ) (n g k : ℕ) (l : g < k) where

@@ -1,4 +1,4 @@
-// Live readers, counted on the words of an area: the number of live gates, and refusal 9.
+// Live readers, counted on the words of an area: the number of live gates, their raw flip sum, and refusal 9.
 //
 // `readers` has an entry for each source, inputs too.
 ghost use mathlib.Core.Path.{_≡_};
@@ -9,6 +9,7 @@ ghost use Rattle.netlist.specs.Live.{readers};
 ghost use Rattle.area.specs.Layout as layout;
 ghost use Rattle.area.specs.Rules.{NetSound};
 ghost use Rattle.area.specs.Net.{netOf};
+ghost use Rattle.area.specs.Sum.{flipIf, flipSum};
 ghost use Rattle.live.specs.Counted.{Counts, Added, gateReads, liveCounted};
 ghost use Rattle.live.specs.Shared.{sharedBy};
 use refusal::Judgement;
@@ -28,27 +29,38 @@ fn add_reads(readers: &mut [u32; area::MOST_SOURCES], area: &[u32], start: usize
     }
 }
 
-// A gate that has a reader reads by each of its used pins; a dead gate reads nothing.
-fn add_gate(readers: &mut [u32; area::MOST_SOURCES], area: &[u32], gate: usize)
+// A gate that has a reader reads by each of its used pins, and its flip is handed back; a dead gate reads nothing, and 0 is.
+fn add_gate(readers: &mut [u32; area::MOST_SOURCES], area: &[u32], gate: usize) -> u32
     requires { ⌜ NetSound (now area) × (gate < layout.gates (now area)) ⌝ }
     requires { ⌜ Counts (now readers) ⌝ }
+    ensures { λ r. ⌜ r ≡ flipIf (getD (now (readers .entry)) (layout.inputs (now (area .entry)) + gate) 0) (layout.flip (now (area .entry)) gate) ⌝ }
     ensures { λ _. ⌜ Added (now (readers .entry)) (gateReads (now (area .entry)) (now (readers .entry)) gate) (now (readers .exit)) ⌝ }
 {
     let source = area::inputs(area) + gate;
-    if 0 < readers[source] {
-        add_reads(
-            readers,
-            area,
-            area::pins_index(gate),
-            area::pin_count(area, gate),
-        );
+    let flip = area::flip(area, gate);
+    if readers[source] < 1 {
+        return 0;
     }
+    add_reads(
+        readers,
+        area,
+        area::pins_index(gate),
+        area::pin_count(area, gate),
+    );
+    flip
 }
 
-// The live readers of every source. A gate's readers come after it, so the last gate is looked at first.
-pub fn count_readers(area: &[u32]) -> [u32; area::MOST_SOURCES]
+// The live readers of every source, and the raw flip sum.
+pub struct LiveCounts {
+    pub readers: [u32; area::MOST_SOURCES],
+    pub sum: u64,
+}
+
+// A gate's readers come after it, so the last gate is looked at first, and by then its readers are all counted.
+pub fn count_live(area: &[u32]) -> LiveCounts
     requires { ⌜ NetSound (now area) ⌝ }
-    ensures { λ r. ⌜ ((s : ℕ) → getD r s 0 ≡ readers (netOf (now (area .entry)) [] []) s) ⌝ }
+    ensures { λ r. ⌜ ((s : ℕ) → getD (r .readers) s 0 ≡ readers (netOf (now (area .entry)) [] []) s) ⌝ }
+    ensures { λ r. ⌜ (r .sum ≡ flipSum (now (area .entry))) × (length (r .readers) ≡ layout.mostSources) ⌝ }
 {
     let mut gate = area::gates(area);
     let mut readers = [0u32; area::MOST_SOURCES];
@@ -58,11 +70,20 @@ pub fn count_readers(area: &[u32]) -> [u32; area::MOST_SOURCES]
         area::outputs_index(gate),
         area::outputs(area),
     );
+    let mut sum = 0u64;
     while 0 < gate {
         gate -= 1;
-        add_gate(&mut readers, area, gate);
+        sum += add_gate(&mut readers, area, gate) as u64;
     }
-    readers
+    LiveCounts { readers, sum }
+}
+
+// The live readers alone.
+pub fn count_readers(area: &[u32]) -> [u32; area::MOST_SOURCES]
+    requires { ⌜ NetSound (now area) ⌝ }
+    ensures { λ r. ⌜ ((s : ℕ) → getD r s 0 ≡ readers (netOf (now (area .entry)) [] []) s) ⌝ }
+{
+    count_live(area).readers
 }
 
 // How many of the gates have a reader; the first gate is source `inputs`.
@@ -79,6 +100,17 @@ pub fn live_gates(readers: &[u32; area::MOST_SOURCES], inputs: usize, gates: usi
         gate += 1;
     }
     live
+}
+
+// A raw flip sum after the flip of one gate, whose source has so many readers, has gone from `old` to `new`.
+pub fn changed_sum(sum: u64, readers: u32, old: u32, new: u32) -> u64
+    requires { ⌜ (flipIf readers old ≤ sum) × (sum + new < 18_446_744_073_709_551_616) ⌝ }
+    ensures { λ r. ⌜ r + flipIf readers old ≡ sum + flipIf readers new ⌝ }
+{
+    if readers < 1 {
+        return sum;
+    }
+    sum - old as u64 + new as u64
 }
 
 // Refusal 9: the lowest gate with two readers or more.

@@ -1,3 +1,4 @@
 pub mod Facts
 pub mod Parts
+pub mod Pins
 pub mod Sound

@@ -10,14 +10,15 @@ use lib.ListN.{length, drop, length-take, length-drop}
 use Rattle.lists.specs.Lists.{allBelow}
 use Rattle.lists.proofs.Every.{all-hold, hold-all}
 use Rattle.refusal.specs.declared.Judgement.{Judgement}
-use Rattle.refusal.specs.declared.Judgement.the-variants.{Fine}
+use Rattle.refusal.specs.declared.Judgement.the-variants.{Fine, Refused}
 use Rattle.refusal.specs.Judgement.{refuseUnless, otherwise}
-use Rattle.refusal.proofs.Laws.{unless-fine, otherwise-fine, otherwise-second}
+use Rattle.refusal.proofs.Laws.{unless-fine, otherwise-fine, otherwise-first, otherwise-second}
 use Rattle.rounding.specs.Rounding.{unitsInOne}
 use Rattle.area.specs.Layout.{largestFlip, largestFigure, headWords, inputs, gates, outputs, pattern, reliabilityWord}
-use Rattle.area.specs.Layout.{reservedFirst, reservedSecond, reservedThird, pinCount, table, pins, flip, figure, outputsIndex, outputWords, needed}
-use Rattle.area.specs.Rules.{gateShape, usedBelow, gateSound, gatesSound, countsInRange, reservedRight, restSound, roomJudgement, areaJudgement}
-use Rattle.area.specs.Rules.{GateShaped, ReservedSound, Sound}
+use Rattle.area.specs.Layout.{sumLowWord, sumHighWord, reservedWord, pinCount, table, pins, flip, figure, outputsIndex, outputWords, needed}
+use Rattle.area.specs.Rules.{gateShape, usedBelow, gateSound, gatesSound, countsInRange, restSound, sumRight, roomJudgement, wordsJudgement, areaJudgement}
+use Rattle.area.specs.Rules.{GateShaped, SumSound, Workable, Sound}
+use Rattle.area.specs.Sum.{flipSum, lowBits, highBits}
 use Rattle.rules.proofs.Facts.{both, join, shape-holds, shape-passes, used-holds, used-passes, below-holds, below-passes, counts-hold, counts-pass}
 use Rattle.rules.proofs.Parts.{none, next}
 
@@ -61,47 +62,34 @@ record Rest (ws : List ℕ) : Type 0 where
   pub outputs-below : allBelow (inputs ws + gates ws) (outputWords ws) ≡ true
   pub pattern-fits : pattern ws < 2 ^ inputs ws
   pub reliability-fits : reliabilityWord ws ≤ unitsInOne
-  pub reserved : ReservedSound ws
 
 rest-holds : (ws : List ℕ) → restSound ws ≡ true → Rest ws
-unfolding restSound gatesSound reservedRight
+unfolding restSound gatesSound
 rest-holds ws e =
     let b = allBelow (inputs ws + gates ws) (outputWords ws) in
     let c = ltb (pattern ws) (2 ^ inputs ws) in
     let d = leb (reliabilityWord ws) unitsInOne in
-    let z5 = eqb (reservedFirst ws) 0 in
-    let z6 = eqb (reservedSecond ws) 0 in
-    let z7 = eqb (reservedThird ws) 0 in
-    let p = both (gatesSound ws) (b && (c && (d && (z5 && (z6 && z7))))) e in
-    let q = both b (c && (d && (z5 && (z6 && z7)))) (p .1) in
-    let r = both c (d && (z5 && (z6 && z7))) (q .1) in
-    let s = both d (z5 && (z6 && z7)) (r .1) in
-    let t = both z5 (z6 && z7) (s .1) in
-    let u = both z6 z7 (t .1) in
+    let p = both (gatesSound ws) (b && (c && d)) e in
+    let q = both b (c && d) (p .1) in
+    let r = both c d (q .1) in
     record {
       gate = λ j l. gate-holds ws j (all-hold (gateSound ws) (gates ws) (p .0) j l);
       outputs-below = q .0;
       pattern-fits = ltb-true (pattern ws) (2 ^ inputs ws) (r .0);
-      reliability-fits = leb-true (reliabilityWord ws) unitsInOne (s .0);
-      reserved = record {
-        first = eqb-true (reservedFirst ws) 0 (t .0);
-        second = eqb-true (reservedSecond ws) 0 (u .0);
-        third = eqb-true (reservedThird ws) 0 (u .1);
-      };
+      reliability-fits = leb-true (reliabilityWord ws) unitsInOne (r .1);
     }
 
 rest-passes : (ws : List ℕ) → Rest ws → restSound ws ≡ true
-unfolding restSound gatesSound reservedRight
+unfolding restSound gatesSound
 rest-passes ws r =
     join _ _ (hold-all (gateSound ws) (gates ws) (λ j l. gate-passes ws j (r .gate j l)))
-    (join _ _ (r .outputs-below)
-    (join _ _ (lt-ltb _ _ (r .pattern-fits))
-    (join _ _ (le-leb _ _ (r .reliability-fits))
-    (join _ _ (eq-eqb _ _ (r .reserved .first)) (join _ _ (eq-eqb _ _ (r .reserved .second)) (eq-eqb _ _ (r .reserved .third)))))))
+    (join _ _ (r .outputs-below) (join _ _ (lt-ltb _ _ (r .pattern-fits)) (le-leb _ _ (r .reliability-fits))))
 
-pub sound : (ws : List ℕ) → areaJudgement ws ≡ Fine → Sound ws
-unfolding areaJudgement
-sound ws e =
+-- ---- the words but for the sum
+
+pub workable : (ws : List ℕ) → wordsJudgement ws ≡ Fine → Workable ws
+unfolding wordsJudgement
+workable ws e =
     let counts = refuseUnless (countsInRange (inputs ws) (gates ws) (outputs ws)) 14 0 in
     let room = roomJudgement (gates ws) (outputs ws) (length ws) in
     let rest = refuseUnless (restSound ws) 14 0 in
@@ -112,31 +100,28 @@ sound ws e =
     let long = leb-true (needed (gates ws) (outputs ws)) (length ws) (unless-fine _ 13 0 (r .0)) in
     let t = rest-holds ws (unless-fine (restSound ws) 14 0 (r .1)) in
     record {
-      workable = record {
-        net = record {
-          inputs-fit = n .0;
-          gates-fit = n .1;
-          some-output = n .2;
-          outputs-fit = n .3;
-          long = long;
-          gate = λ j l. t .gate j l .shaped;
-          outputs-below = λ k l. below-holds (inputs ws + gates ws) (outputWords ws) (t .outputs-below) k (rw (length-take, length-drop) (omega arith));
-        };
-        figures = record {
-          pattern-fits = t .pattern-fits;
-          reliability-fits = t .reliability-fits;
-          flip-fits = λ j l. t .gate j l .flip-fits;
-          figure-fits = λ j l. t .gate j l .figure-fits;
-        };
+      net = record {
+        inputs-fit = n .0;
+        gates-fit = n .1;
+        some-output = n .2;
+        outputs-fit = n .3;
+        long = long;
+        gate = λ j l. t .gate j l .shaped;
+        outputs-below = λ k l. below-holds (inputs ws + gates ws) (outputWords ws) (t .outputs-below) k (rw (length-take, length-drop) (omega arith));
       };
-      reserved = t .reserved;
+      figures = record {
+        pattern-fits = t .pattern-fits;
+        reliability-fits = t .reliability-fits;
+        flip-fits = λ j l. t .gate j l .flip-fits;
+        figure-fits = λ j l. t .gate j l .figure-fits;
+      };
     }
 
-pub sound-passes : (ws : List ℕ) → Sound ws → areaJudgement ws ≡ Fine
-unfolding areaJudgement
-sound-passes ws s =
-    let net = s .workable .net in
-    let figures = s .workable .figures in
+workable-passes : (ws : List ℕ) → Workable ws → wordsJudgement ws ≡ Fine
+unfolding wordsJudgement
+workable-passes ws s =
+    let net = s .net in
+    let figures = s .figures in
     let few = length-take (outputs ws) (drop (outputsIndex (gates ws)) ws) in
     next 13 0 _ (le-leb headWords (length ws) (omega arith))
     ∙ next 14 0 _ (counts-pass (inputs ws) (gates ws) (outputs ws) (net .inputs-fit) (net .gates-fit) (net .some-output) (net .outputs-fit))
@@ -149,8 +134,41 @@ sound-passes ws s =
       outputs-below = below-passes (inputs ws + gates ws) (outputWords ws) (λ k l. net .outputs-below k (omega arith));
       pattern-fits = figures .pattern-fits;
       reliability-fits = figures .reliability-fits;
-      reserved = s .reserved;
     }))
+
+-- ---- with the sum
+
+sum-holds : (ws : List ℕ) → sumRight ws ≡ true → SumSound ws
+unfolding sumRight
+sum-holds ws e =
+    let low = eqb (sumLowWord ws) (lowBits (flipSum ws)) in
+    let high = eqb (sumHighWord ws) (highBits (flipSum ws)) in
+    let p = both low (high && eqb (reservedWord ws) 0) e in
+    let q = both high (eqb (reservedWord ws) 0) (p .1) in
+    record { low = eqb-true _ _ (p .0); high = eqb-true _ _ (q .0); reserved = eqb-true _ _ (q .1) }
+
+sum-passes : (ws : List ℕ) → SumSound ws → sumRight ws ≡ true
+unfolding sumRight
+sum-passes ws s = join _ _ (eq-eqb _ _ (s .low)) (join _ _ (eq-eqb _ _ (s .high)) (eq-eqb _ _ (s .reserved)))
+
+pub sound : (ws : List ℕ) → areaJudgement ws ≡ Fine → Sound ws
+unfolding areaJudgement
+sound ws e =
+    let p = otherwise-fine (wordsJudgement ws) (refuseUnless (sumRight ws) 14 0) e in
+    record { workable = workable ws (p .0); sum = sum-holds ws (unless-fine (sumRight ws) 14 0 (p .1)) }
+
+pub sound-passes : (ws : List ℕ) → Sound ws → areaJudgement ws ≡ Fine
+unfolding areaJudgement
+sound-passes ws s = otherwise-second (wordsJudgement ws) _ (workable-passes ws (s .workable)) ∙ none 14 0 (sum-passes ws (s .sum))
+
+-- an area that passes all but the sum, or not even that
+pub past-words : (ws : List ℕ) → wordsJudgement ws ≡ Fine → areaJudgement ws ≡ refuseUnless (sumRight ws) 14 0
+unfolding areaJudgement
+past-words ws e = otherwise-second (wordsJudgement ws) _ e
+
+pub stopped-words : (ws : List ℕ) (n p : ℕ) → wordsJudgement ws ≡ Refused n p → areaJudgement ws ≡ Refused n p
+unfolding areaJudgement
+stopped-words ws n p e = otherwise-first (wordsJudgement ws) _ n p e
 
 -- what is judged after a sound area
 pub past-area : (ws : List ℕ) → Sound ws → (j : Judgement) → otherwise (areaJudgement ws) j ≡ j

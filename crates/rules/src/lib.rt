@@ -1,11 +1,14 @@
 // Rules 5, 6, 13 and 14 of document 01: whether a gate and a work area are well-formed, and with which number an area is refused.
+ghost use mathlib.Core.Bool.{_&&_};
 ghost use mathlib.Core.Path.{_≡_};
 ghost use Prim.Native.Nat.{_+_, _-_, _^_, _<_, _≤_};
-ghost use lib.ListN.{length, take, drop};
+ghost use lib.ListN.{length, getD, take, drop};
 ghost use lib.Dec.{ltb};
 ghost use Rattle.lists.specs.Lists.{allZero, allBelow};
+ghost use Rattle.refusal.specs.Judgement.{refuseUnless};
 ghost use Rattle.area.specs.Layout as layout;
-ghost use Rattle.area.specs.Rules.{gateShape, usedBelow, gateSound, gatesSound, countsInRange, reservedRight, restSound, areaJudgement};
+ghost use Rattle.area.specs.Sum.{flipSum};
+ghost use Rattle.area.specs.Rules.{gateShape, usedBelow, gateSound, gatesSound, countsInRange, restSound, sumRight, wordsJudgement, areaJudgement};
 use refusal::Judgement;
 
 // Rule 5, the truth table: no bit at or above 2^count.
@@ -73,17 +76,49 @@ pub fn used_below(limit: usize, count: usize, pins: [u32; 4]) -> bool
     all_below(&pins[..], 0, count, limit)
 }
 
+// Whether each of four pins is below its own bound. Written out, so that the pins need no memory.
+fn pins_below(pins: [u32; 4], first: usize, second: usize, third: usize, fourth: usize) -> bool
+    ensures { λ r. ⌜ r ≡ (ltb (getD pins 0 0) first && (ltb (getD pins 1 0) second && (ltb (getD pins 2 0) third && ltb (getD pins 3 0) fourth))) ⌝ }
+{
+    if area::index(pins[0]) >= first {
+        return false;
+    }
+    if area::index(pins[1]) >= second {
+        return false;
+    }
+    if area::index(pins[2]) >= third {
+        return false;
+    }
+    area::index(pins[3]) < fourth
+}
+
+// The pins of rules 5 and 6 at once: the used ones below `limit`, the others zero. A case for each count is the fastest way to test both.
+fn pins_sound(count: usize, pins: [u32; 4], limit: usize) -> bool
+    requires { ⌜ count ≤ layout.mostPins ⌝ }
+    ensures { λ r. ⌜ r ≡ (allZero (drop count pins) && usedBelow limit count pins) ⌝ }
+{
+    match count {
+        0 => pins_below(pins, 1, 1, 1, 1),
+        1 => pins_below(pins, limit, 1, 1, 1),
+        2 => pins_below(pins, limit, limit, 1, 1),
+        3 => pins_below(pins, limit, limit, limit, 1),
+        _ => pins_below(pins, limit, limit, limit, limit),
+    }
+}
+
 // Rule 14 for gate `j`.
 fn gate_sound(area: &[u32], j: usize) -> bool
     requires { ⌜ (layout.figureIndex j < length (now area)) × (layout.inputs (now area) ≤ layout.mostInputs) ⌝ }
     ensures { λ r. ⌜ r ≡ gateSound (now (area .entry)) j ⌝ }
 {
     let count = area::pin_count(area, j);
-    let pins = area::pins(area, j);
-    if !gate_shape(count, area::table(area, j), pins) {
+    if count > area::MOST_PINS {
         return false;
     }
-    if !used_below(area::inputs(area) + j, count, pins) {
+    if !table_fits(count, area::table(area, j)) {
+        return false;
+    }
+    if !pins_sound(count, area::pins(area, j), area::inputs(area) + j) {
         return false;
     }
     if area::flip(area, j) > area::LARGEST_FLIP {
@@ -124,20 +159,6 @@ pub fn counts_in_range(inputs: usize, gates: usize, outputs: usize) -> bool
     outputs <= area::MOST_OUTPUTS
 }
 
-// Rule 14, the reserved words.
-fn reserved_right(area: &[u32]) -> bool
-    requires { ⌜ layout.headWords ≤ length (now area) ⌝ }
-    ensures { λ r. ⌜ r ≡ reservedRight (now (area .entry)) ⌝ }
-{
-    if area[area::RESERVED_FIRST] != 0 {
-        return false;
-    }
-    if area[area::RESERVED_SECOND] != 0 {
-        return false;
-    }
-    area[area::RESERVED_THIRD] == 0
-}
-
 // Rule 14, the outputs: each is a source.
 fn outputs_below(area: &[u32]) -> bool
     requires { ⌜ layout.needed (layout.gates (now area)) (layout.outputs (now area)) ≤ length (now area) ⌝ }
@@ -155,7 +176,7 @@ fn outputs_below(area: &[u32]) -> bool
     )
 }
 
-// Rule 14 but for the counts.
+// Rule 14 but for the counts and the sum.
 fn rest_sound(area: &[u32]) -> bool
     requires { ⌜ layout.needed (layout.gates (now area)) (layout.outputs (now area)) ≤ length (now area) ⌝ }
     requires { ⌜ layout.inputs (now area) ≤ layout.mostInputs ⌝ }
@@ -171,15 +192,12 @@ fn rest_sound(area: &[u32]) -> bool
     if area[area::PATTERN] >= 1 << area::inputs(area) {
         return false;
     }
-    if area[area::RELIABILITY] as u64 > rounding::UNITS_IN_ONE {
-        return false;
-    }
-    reserved_right(area)
+    area[area::RELIABILITY] as u64 <= rounding::UNITS_IN_ONE
 }
 
-// Refusals 13 and 14 of an area. Its length by the counts is tried only when the counts are in range.
-pub fn judge(area: &[u32]) -> Judgement
-    ensures { λ r. ⌜ r ≡ areaJudgement (now (area .entry)) ⌝ }
+// Refusals 13 and 14 of an area but for the sum. Its length by the counts is tried only when the counts are in range.
+pub fn judge_words(area: &[u32]) -> Judgement
+    ensures { λ r. ⌜ r ≡ wordsJudgement (now (area .entry)) ⌝ }
 {
     if area.len() < area::HEAD_WORDS {
         return Judgement::Refused(refusal::TOO_SHORT, 0);
@@ -196,4 +214,40 @@ pub fn judge(area: &[u32]) -> Judgement
         return Judgement::Refused(refusal::AREA_RULE, 0);
     }
     Judgement::Fine
+}
+
+// Rule 14, last: two words hold the raw flip sum, and the reserved word is zero.
+fn sum_right(area: &[u32], sum: u64) -> bool
+    requires { ⌜ (layout.headWords ≤ length (now area)) × (sum ≡ flipSum (now area)) ⌝ }
+    ensures { λ r. ⌜ r ≡ sumRight (now (area .entry)) ⌝ }
+{
+    if area[area::SUM_LOW] as u64 != sum % 4_294_967_296 {
+        return false;
+    }
+    if area[area::SUM_HIGH] as u64 != sum / 4_294_967_296 {
+        return false;
+    }
+    area[area::RESERVED] == 0
+}
+
+// The last part of refusal 14, of an area that has passed the others.
+pub fn judge_sum(area: &[u32], sum: u64) -> Judgement
+    requires { ⌜ (layout.headWords ≤ length (now area)) × (sum ≡ flipSum (now area)) ⌝ }
+    ensures { λ r. ⌜ r ≡ refuseUnless (sumRight (now (area .entry))) 14 0 ⌝ }
+{
+    if sum_right(area, sum) {
+        Judgement::Fine
+    } else {
+        Judgement::Refused(refusal::AREA_RULE, 0)
+    }
+}
+
+// Refusals 13 and 14 of an area.
+pub fn judge(area: &[u32]) -> Judgement
+    ensures { λ r. ⌜ r ≡ areaJudgement (now (area .entry)) ⌝ }
+{
+    match judge_words(area) {
+        Judgement::Fine => judge_sum(area, live::count_live(area).sum),
+        Judgement::Refused(number, place) => Judgement::Refused(number, place),
+    }
 }

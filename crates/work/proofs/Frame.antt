@@ -8,9 +8,12 @@ use native.Mathlib.Omega.{arith}
 use lib.ListN.{length, getD, set, take, drop, length-set, length-take, length-drop}
 use lib.Seq.{getD-set-same, getD-set-other, ext-getD}
 use Rattle.lists.proofs.Parts.{part-at}
-use Rattle.area.specs.Layout.{headWords, inputs, gates, outputs, patternIndex, pattern, reliabilityIndex, reliabilityWord}
+use Rattle.area.specs.Layout.{inputs, gates, outputs, patternIndex, pattern, reliabilityIndex, reliabilityWord, sumLowIndex, sumHighIndex, reservedWord}
 use Rattle.area.specs.Layout.{gateIndex, pinCount, table, pinsIndex, pins, flipIndex, flip, figureIndex, figure, usedPins, outputsIndex, outputWords, needed}
+use Rattle.area.specs.Sum.{storedSum}
 use Rattle.area.proofs.Words.{pin-at}
+use Rattle.area.proofs.Net.{SameNet}
+use Rattle.area.proofs.Sum.{stored-length, stored-other}
 use Rattle.work.specs.Work.{gateFigure, workGate, workGates, reliabilityNow, workReliability, workAll, readsMarked, workIf, markIf, workMarked}
 use Rattle.work.specs.Work.{markOf, invertBit, toggleWords, setWords}
 
@@ -114,12 +117,14 @@ pub set-kept : (ws : List ℕ) (g units : ℕ) → Keeps (λ k. (k ≢ flipIndex
 unfolding setWords
 set-kept ws g units = stored-kept ws (flipIndex g) units (set-walk ws g units)
 
--- ---- areas that differ only in pattern, reliability, flips and figures
+-- ---- areas that differ only in pattern, reliability, raw flip sum, flips and figures
 
--- word i is of the netlist of g gates, or lies past it: not the pattern, nor the reliability, nor a flip or figure of a gate
+-- word i is of the netlist of g gates, or lies past it: not the pattern, nor the reliability, nor of the sum, nor a flip or figure of a gate
 pub record FrameWord (g i : ℕ) : Type 0 where
   pub not-pattern : i ≢ patternIndex
   pub not-reliability : i ≢ reliabilityIndex
+  pub not-low : i ≢ sumLowIndex
+  pub not-high : i ≢ sumHighIndex
   pub not-flip : (j : ℕ) → j < g → i ≢ flipIndex j
   pub not-figure : (j : ℕ) → j < g → i ≢ figureIndex j
 
@@ -127,28 +132,37 @@ pub record FrameWord (g i : ℕ) : Type 0 where
 abbrev pub SameFrame : List ℕ → List ℕ → Type 0
 SameFrame ws vs = Keeps (FrameWord (gates ws)) ws vs
 
--- the words of the head, those of a gate, and those past the gates that are of the netlist
-pub head-frame : (g i : ℕ) → i < headWords → i ≢ patternIndex → i ≢ reliabilityIndex → FrameWord g i
-head-frame g i l three four =
-    record { not-pattern = three; not-reliability = four; not-flip = λ j s e. omega arith; not-figure = λ j s e. omega arith }
+-- the counts, the reserved word, a gate's words up to its flip, and those past the gates are of the netlist
+pub counts-frame : (g i : ℕ) → i < patternIndex → FrameWord g i
+counts-frame g i l =
+    record {
+      not-pattern = λ e. omega arith;
+      not-reliability = λ e. omega arith;
+      not-low = λ e. omega arith;
+      not-high = λ e. omega arith;
+      not-flip = λ j s e. omega arith;
+      not-figure = λ j s e. omega arith;
+    }
+
+pub later-frame : (g i : ℕ) → sumHighIndex < i → ((j : ℕ) → j < g → i ≢ flipIndex j) → ((j : ℕ) → j < g → i ≢ figureIndex j) → FrameWord g i
+later-frame g i l flips figures =
+    record {
+      not-pattern = λ e. omega arith;
+      not-reliability = λ e. omega arith;
+      not-low = λ e. omega arith;
+      not-high = λ e. omega arith;
+      not-flip = flips;
+      not-figure = figures;
+    }
+
+pub reserved-frame : (g : ℕ) → FrameWord g 7
+reserved-frame g = later-frame g 7 (omega arith) (λ k s e. omega arith) (λ k s e. omega arith)
 
 pub gate-frame : (g j i : ℕ) → gateIndex j ≤ i → i < flipIndex j → FrameWord g i
-gate-frame g j i from to =
-    record {
-      not-pattern = λ e. omega arith;
-      not-reliability = λ e. omega arith;
-      not-flip = λ k s e. omega arith;
-      not-figure = λ k s e. omega arith;
-    }
+gate-frame g j i from to = later-frame g i (omega arith) (λ k s e. omega arith) (λ k s e. omega arith)
 
 pub past-frame : (g i : ℕ) → outputsIndex g ≤ i → FrameWord g i
-past-frame g i l =
-    record {
-      not-pattern = λ e. omega arith;
-      not-reliability = λ e. omega arith;
-      not-flip = λ k s e. omega arith;
-      not-figure = λ k s e. omega arith;
-    }
+past-frame g i l = later-frame g i (omega arith) (λ k s e. omega arith) (λ k s e. omega arith)
 
 -- the parts of two lists that agree there
 part-same : (ws vs : List ℕ) (a n : ℕ) → length vs ≡ length ws → ((i : ℕ) → i < n → getD vs (a + i) 0 ≡ getD ws (a + i) 0)
@@ -162,13 +176,13 @@ part-same ws vs a n e h =
 
 module _ (ws vs : List ℕ) (same : SameFrame ws vs) where
   pub same-inputs : inputs vs ≡ inputs ws
-  same-inputs = same .kept _ (head-frame (gates ws) _ (omega arith) (λ e. omega arith) (λ e. omega arith))
+  same-inputs = same .kept _ (counts-frame (gates ws) _ (omega arith))
 
   pub same-gates : gates vs ≡ gates ws
-  same-gates = same .kept _ (head-frame (gates ws) _ (omega arith) (λ e. omega arith) (λ e. omega arith))
+  same-gates = same .kept _ (counts-frame (gates ws) _ (omega arith))
 
   pub same-outputs : outputs vs ≡ outputs ws
-  same-outputs = same .kept _ (head-frame (gates ws) _ (omega arith) (λ e. omega arith) (λ e. omega arith))
+  same-outputs = same .kept _ (counts-frame (gates ws) _ (omega arith))
 
   gate-word : (j i : ℕ) → gateIndex j ≤ i → i < flipIndex j → getD vs i 0 ≡ getD ws i 0
   gate-word j i from to = same .kept i (gate-frame (gates ws) j i from to)
@@ -193,6 +207,19 @@ module _ (ws vs : List ℕ) (same : SameFrame ws vs) where
       ∙ part-same ws vs (outputsIndex (gates ws)) (outputs ws) (same .size)
       (λ i l. same .kept (outputsIndex (gates ws) + i) (past-frame (gates ws) _ (omega arith)))
 
+  pub same-reserved : reservedWord vs ≡ reservedWord ws
+  same-reserved = same .kept _ (reserved-frame (gates ws))
+
+  pub frame-same-net : SameNet vs ws
+  frame-same-net =
+      record {
+        same-inputs = same-inputs;
+        same-gates = same-gates;
+        same-pins = λ j l. same-used-pins j;
+        same-table = λ j l. same-table j;
+        same-outputs = same-output-words;
+      }
+
   -- the words past those needed
   pub past-kept : (i : ℕ) → needed (gates ws) (outputs ws) ≤ i → getD vs i 0 ≡ getD ws i 0
   past-kept i l = same .kept i (past-frame (gates ws) i (omega arith))
@@ -212,6 +239,9 @@ same-store-pattern ws q = keeps-fewer (λ i n. n .not-pattern) (store-kept ws pa
 
 pub same-store-flip : (ws : List ℕ) (g units : ℕ) → g < gates ws → SameFrame ws (set ws (flipIndex g) units)
 same-store-flip ws g units l = keeps-fewer (λ i n. n .not-flip g l) (store-kept ws (flipIndex g) units)
+
+pub same-store-sum : (ws : List ℕ) (sum : ℕ) → SameFrame ws (storedSum ws sum)
+same-store-sum ws sum = record { size = stored-length ws sum; kept = λ i n. stored-other ws sum i (n .not-low) (n .not-high) }
 
 pub same-work-gate : (ws : List ℕ) (j : ℕ) → j < gates ws → SameFrame ws (workGate ws j)
 same-work-gate ws j l = keeps-fewer (λ i n. n .not-figure j l) (work-gate-kept ws j)
@@ -237,13 +267,19 @@ same-toggle ws i = keeps-fewer (λ k n. (n .not-pattern, frame-unworked (omega a
 pub same-set : (ws : List ℕ) (g units : ℕ) → g < gates ws → SameFrame ws (setWords ws g units)
 same-set ws g units l = keeps-fewer (λ k n. (n .not-flip g l, frame-unworked (omega arith) n)) (set-kept ws g units)
 
--- ---- the pattern and the flips are not worked out
+-- ---- the pattern, the sum and the flips are not worked out
 
 pub pattern-unworked : (j k : ℕ) → Unworked j k patternIndex
 pattern-unworked j k = record { not-reliability = λ e. omega arith; no-figure = λ l from to e. omega arith }
 
 pub flip-unworked : (j k l : ℕ) → Unworked j k (flipIndex l)
 flip-unworked j k l = record { not-reliability = λ e. omega arith; no-figure = λ m from to e. omega arith }
+
+pub low-unworked : (j k : ℕ) → Unworked j k sumLowIndex
+low-unworked j k = record { not-reliability = λ e. omega arith; no-figure = λ l from to e. omega arith }
+
+pub high-unworked : (j k : ℕ) → Unworked j k sumHighIndex
+high-unworked j k = record { not-reliability = λ e. omega arith; no-figure = λ l from to e. omega arith }
 
 pub work-all-pattern : (ws : List ℕ) → pattern (workAll ws) ≡ pattern ws
 work-all-pattern ws = work-all-kept ws .kept patternIndex (pattern-unworked 0 (gates ws))

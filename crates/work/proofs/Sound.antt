@@ -2,7 +2,7 @@
 use Prim.Native.Nat.{ℕ, suc, _+_, _-_, _/_, _%_, _^_, _≤_, _<_}
 use mathlib.Core.Bool.{Bool, true, false, cond}
 use mathlib.Core.List.{List, [], _∷_, map}
-use mathlib.Core.Logic.{by-cases}
+use mathlib.Core.Logic.{_≢_, by-cases}
 use mathlib.Core.Path.{_≡_, refl, sym, ap, subst, _∙_}
 use native.Mathlib.Decide.{ℕ-discrete}
 use native.Mathlib.Nat.{le-refl}
@@ -16,18 +16,23 @@ use Rattle.lists.proofs.Every.{map-all}
 use Rattle.rounding.specs.Rounding.{unitsInOne}
 use Rattle.figure.specs.Figure.{bitOf, answer, outputStep, rightOf, failureOf, gateWord}
 use Rattle.figure.proofs.Laws.{failure-at-most, output-at-most}
-use Rattle.area.specs.Layout.{largestFlip, largestFigure, inputs, gates, patternIndex, pattern, reliabilityIndex}
+use Rattle.area.specs.Layout.{largestFlip, largestFigure, inputs, gates, patternIndex, pattern, reliabilityIndex, sumLowWord, sumHighWord, reservedWord}
 use Rattle.area.specs.Layout.{table, pins, flipIndex, flip, figureIndex, figure, usedPins, outputWords, sourceWord}
 use Rattle.area.specs.Rules.{NetSound, FiguresSound, Workable, Sound}
+use Rattle.netlist.specs.Live.{readers}
+use Rattle.area.specs.Net.{netOf}
+use Rattle.area.specs.Sum.{flipIf, liveFlip, flipSum, lowBits, highBits, storedSum, withSum}
+use Rattle.area.proofs.Sum.{same-sum, changed-sum, stored-other, stored-low, stored-high}
 use Rattle.area.specs.Figures.{gateWordFrom, productFrom}
 use Rattle.area.proofs.Words.{gate-inside, used-below, output-below}
 use Rattle.work.specs.Work.{gateFigure, workGate, reliabilityNow, workReliability, workAll, workIf, markOf, invertBit, toggleWords, setWords}
-use Rattle.work.proofs.Frame.{SameFrame, same-inputs, same-gates, same-outputs, same-pin-count, same-table, same-pins, same-output-words, head-frame}
+use Rattle.work.proofs.Frame.{SameFrame, same-inputs, same-gates, same-outputs, same-pin-count, same-table, same-pins, same-output-words, same-reserved, frame-same-net}
 use Rattle.work.proofs.Frame.{Walk, end, next, gates-walk, marked-walk, set-walk, same-work-gate, same-work-if, same-work-reliability}
-use Rattle.work.proofs.Frame.{same-store-pattern, same-store-flip, same-work-all, same-toggle, same-set}
+use Rattle.work.proofs.Frame.{same-store-pattern, same-store-flip, same-store-sum, same-work-all, same-toggle, same-set}
+use Rattle.work.proofs.Frame.{store-kept, worked-kept, work-all-kept, toggle-kept, set-kept, low-unworked, high-unworked, flip-unworked, work-all-flip}
 use Rattle.work.proofs.Pattern.{invert-fits}
 
--- ---- areas of one frame: netlist and reserved words are the same, the figures are to be shown
+-- ---- areas of one frame: the netlist is the same, the figures are to be shown
 
 pub net-same : (ws vs : List ℕ) → NetSound ws → SameFrame ws vs → NetSound vs
 net-same ws vs net same =
@@ -57,16 +62,22 @@ net-same ws vs net same =
 pub workable-same : (ws vs : List ℕ) → Workable ws → SameFrame ws vs → FiguresSound vs → Workable vs
 workable-same ws vs workable same figures = record { net = net-same ws vs (workable .net) same; figures = figures }
 
-pub sound-same : (ws vs : List ℕ) → Sound ws → SameFrame ws vs → Workable vs → Sound vs
-sound-same ws vs sound same workable =
+-- and whose sum and flips are the same
+pub record SameSum (ws vs : List ℕ) : Type 0 where
+  pub same-low : sumLowWord vs ≡ sumLowWord ws
+  pub same-high : sumHighWord vs ≡ sumHighWord ws
+  pub same-flips : (j : ℕ) → j < gates ws → flip vs j ≡ flip ws j
+
+pub sound-same : (ws vs : List ℕ) → Sound ws → SameFrame ws vs → SameSum ws vs → Workable vs → Sound vs
+sound-same ws vs sound same kept workable =
+    let sum = sym (same-sum vs ws (frame-same-net ws vs same) (kept .same-flips)) in
     record {
       workable = workable;
-      reserved =
-          record {
-            first = same .kept _ (head-frame (gates ws) _ (omega arith) (λ e. omega arith) (λ e. omega arith)) ∙ sound .reserved .first;
-            second = same .kept _ (head-frame (gates ws) _ (omega arith) (λ e. omega arith) (λ e. omega arith)) ∙ sound .reserved .second;
-            third = same .kept _ (head-frame (gates ws) _ (omega arith) (λ e. omega arith) (λ e. omega arith)) ∙ sound .reserved .third;
-          };
+      sum = record {
+        low = kept .same-low ∙ sound .sum .low ∙ ap lowBits sum;
+        high = kept .same-high ∙ sound .sum .high ∙ ap highBits sum;
+        reserved = same-reserved ws vs same ∙ sound .sum .reserved;
+      };
     }
 
 -- ---- one word stored
@@ -103,6 +114,44 @@ pub workable-store-flip : (ws : List ℕ) (g units : ℕ) → Workable ws → g 
 workable-store-flip ws g units workable l h =
     workable-store ws (flipIndex g) units workable (same-store-flip ws g units l) (omega (arith, workable .net .long))
     (λ e. absurd (omega arith)) (λ e. absurd (omega arith)) (λ j e. h) (λ j e. absurd (omega arith))
+
+-- ---- the sum stored
+
+module _ (ws : List ℕ) (workable : Workable ws) where
+  abbrev summed : List ℕ
+  summed = storedSum ws (flipSum ws)
+
+  other : (i : ℕ) → (i ≡ 5 → ⊥) → (i ≡ 6 → ⊥) → getD summed i 0 ≡ getD ws i 0
+  other i low high = stored-other ws (flipSum ws) i low high
+
+  workable-summed : Workable summed
+  workable-summed =
+      let same = same-store-sum ws (flipSum ws) in
+      let figures = workable .figures in
+      let g = same-gates ws summed same in
+      workable-same ws summed workable same
+      (record {
+        pattern-fits = rw (same-inputs ws summed same, other patternIndex (λ e. omega arith) (λ e. omega arith)) (figures .pattern-fits);
+        reliability-fits = rw (other reliabilityIndex (λ e. omega arith) (λ e. omega arith)) (figures .reliability-fits);
+        flip-fits = λ j l. rw (other (flipIndex j) (λ e. omega arith) (λ e. omega arith)) (figures .flip-fits j (omega arith));
+        figure-fits = λ j l. rw (other (figureIndex j) (λ e. omega arith) (λ e. omega arith)) (figures .figure-fits j (omega arith));
+      })
+
+  -- an area that holds its own sum, and whose reserved word is zero, keeps all of rule 14
+  pub sound-with-sum : reservedWord ws ≡ 0 → Sound (withSum ws)
+  unfolding withSum
+  sound-with-sum zero =
+      let same = same-store-sum ws (flipSum ws) in
+      let sum = sym (same-sum summed ws (frame-same-net ws summed same) (λ j l. other (flipIndex j) (λ e. omega arith) (λ e. omega arith))) in
+      let long = workable .net .long in
+      record {
+        workable = workable-summed;
+        sum = record {
+          low = stored-low ws (flipSum ws) (omega arith) ∙ ap lowBits sum;
+          high = stored-high ws (flipSum ws) (omega arith) ∙ ap highBits sum;
+          reserved = same-reserved ws summed same ∙ zero;
+        };
+      }
 
 -- ---- what is worked out fits
 
@@ -197,13 +246,52 @@ workable-set ws g units workable l h =
 -- ---- whole areas
 
 pub sound-store-pattern : (ws : List ℕ) (q : ℕ) → Sound ws → q < 2 ^ inputs ws → Sound (set ws patternIndex q)
-sound-store-pattern ws q sound h = sound-same ws _ sound (same-store-pattern ws q) (workable-store-pattern ws q (sound .workable) h)
+sound-store-pattern ws q sound h =
+    let kept = store-kept ws patternIndex q .kept in
+    sound-same ws _ sound (same-store-pattern ws q)
+    (record { same-low = kept _ (λ e. omega arith); same-high = kept _ (λ e. omega arith); same-flips = λ j l. kept _ (λ e. omega arith) })
+    (workable-store-pattern ws q (sound .workable) h)
+
+pub work-all-sum : (ws : List ℕ) → SameSum ws (workAll ws)
+work-all-sum ws =
+    let kept = work-all-kept ws .kept in
+    record { same-low = kept _ (low-unworked 0 (gates ws)); same-high = kept _ (high-unworked 0 (gates ws)); same-flips = λ j l. work-all-flip ws j }
 
 pub sound-work-all : (ws : List ℕ) → Sound ws → Sound (workAll ws)
-sound-work-all ws sound = sound-same ws _ sound (same-work-all ws) (workable-work-all ws (sound .workable))
+sound-work-all ws sound = sound-same ws _ sound (same-work-all ws) (work-all-sum ws) (workable-work-all ws (sound .workable))
 
 pub sound-toggle : (ws : List ℕ) (i : ℕ) → Sound ws → i < inputs ws → Sound (toggleWords ws i)
-sound-toggle ws i sound l = sound-same ws _ sound (same-toggle ws i) (workable-toggle ws i (sound .workable) l)
+sound-toggle ws i sound l =
+    let kept = toggle-kept ws i .kept in
+    sound-same ws _ sound (same-toggle ws i)
+    (record {
+      same-low = kept _ (λ e. omega arith, low-unworked 0 (gates ws));
+      same-high = kept _ (λ e. omega arith, high-unworked 0 (gates ws));
+      same-flips = λ j l. kept _ (λ e. omega arith, flip-unworked 0 (gates ws) j);
+    })
+    (workable-toggle ws i (sound .workable) l)
 
-pub sound-set : (ws : List ℕ) (g units : ℕ) → Sound ws → g < gates ws → units ≤ largestFlip → Sound (setWords ws g units)
-sound-set ws g units sound l h = sound-same ws _ sound (same-set ws g units l) (workable-set ws g units (sound .workable) l h)
+-- the sum is to be stored again once a flip is set
+pub sound-set : (ws : List ℕ) (g units : ℕ) → Sound ws → g < gates ws → units ≤ largestFlip → Sound (withSum (setWords ws g units))
+sound-set ws g units sound l h =
+    sound-with-sum (setWords ws g units) (workable-set ws g units (sound .workable) l h)
+    (same-reserved ws (setWords ws g units) (same-set ws g units l) ∙ sound .sum .reserved)
+
+-- ---- the flips after one is set
+
+module _ (ws : List ℕ) (g units : ℕ) (small : g < gates ws) where
+  pub set-flip-other : (j : ℕ) → j ≢ g → flip (setWords ws g units) j ≡ flip ws j
+  set-flip-other j other = set-kept ws g units .kept (flipIndex j) (λ e. other (omega arith), flip-unworked g _ j)
+
+  pub set-flip : NetSound ws → flip (setWords ws g units) g ≡ units
+  unfolding setWords
+  set-flip net =
+      worked-kept (set-walk ws g units) .kept (flipIndex g) (flip-unworked g _ g)
+      ∙ getD-set-same ws (flipIndex g) units 0 (omega (arith, net .long))
+
+  -- and the raw flip sum
+  pub set-sum : NetSound ws
+      → flipSum (setWords ws g units) + liveFlip ws g ≡ flipSum ws + flipIf (readers (netOf ws [] []) (inputs ws + g)) units
+  set-sum net =
+      changed-sum (setWords ws g units) ws g (frame-same-net ws (setWords ws g units) (same-set ws g units small)) small (λ j l other. set-flip-other j other)
+      ∙ ap (λ (u : ℕ). flipSum ws + flipIf (readers (netOf ws [] []) (inputs ws + g)) u) (set-flip net)

@@ -3,7 +3,7 @@
 
 use crate::compare::Call;
 use crate::counts;
-use crate::exact::ExactSums;
+use crate::exact::{self, ExactSums};
 use crate::model::{self, flip_chance, Counts, Model, Netlist, Refusal};
 
 pub struct Book {
@@ -22,6 +22,14 @@ impl Book {
 
     pub fn sums(&self) -> &ExactSums {
         &self.sums
+    }
+
+    /// Words 5 to 7: the live gates' chances in units, added up, low and high 32 bits; then zero.
+    pub fn head_sum(&self) -> [u32; 3] {
+        let live = model::live_gates(&self.netlist);
+        let gates = self.netlist.gates.iter().zip(live).filter(|(_, live)| *live);
+        let sum: u64 = gates.map(|(gate, _)| exact::nearest_units(gate.chance)).sum();
+        [sum as u32, (sum >> 32) as u32, 0]
     }
 
     fn counts(&self) -> Counts {

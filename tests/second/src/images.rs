@@ -512,6 +512,7 @@ pub fn foreign_area(random: &mut Random, size: Size) -> Vec<u32> {
     for _ in 0..outputs {
         area.push(random.below(u64::from(inputs + gates)) as u32);
     }
+    model::store_sum(&mut area);
     for _ in 0..random.below(6) {
         area.push(random.word());
     }
@@ -519,7 +520,7 @@ pub fn foreign_area(random: &mut Random, size: Size) -> Vec<u32> {
 }
 
 /// The ways to break an area, by name; `break_area` makes them.
-pub const AREA_BREAKS: [&str; 19] = [
+pub const AREA_BREAKS: [&str; 20] = [
     "inputs",
     "gates",
     "no outputs",
@@ -536,13 +537,14 @@ pub const AREA_BREAKS: [&str; 19] = [
     "flip",
     "figure",
     "output",
+    "stale sum",
     "one word short",
     "below eight words",
     "more gates than words",
 ];
 
 /// The first of the ways that take words away; it must come after all others.
-pub const FIRST_CUT: usize = 16;
+pub const FIRST_CUT: usize = 17;
 
 /// Breaks an area in one way. `counts` are those of the area when it was sound, so that several ways
 /// can follow each other. False if the area offers no place for that way.
@@ -558,14 +560,23 @@ pub fn break_area(random: &mut Random, area: &mut Vec<u32>, counts: Counts, way:
         "gates" => area[1] = random.pick(&[1025, 1026, 65_536, 1 << 29, u32::MAX]),
         "no outputs" => area[2] = 0,
         "outputs" => area[2] = random.pick(&[65, 66, 1 << 16, u32::MAX]),
-        "word 5" => area[5] = random.pick(&[1, u32::MAX]),
-        "word 6" => area[6] = random.pick(&[1, 1 << 31]),
+        "word 5" => area[5] = area[5].wrapping_add(random.pick(&[1, 1 << 30, u32::MAX])),
+        "word 6" => area[6] = area[6].wrapping_add(random.pick(&[1, 1 << 31, u32::MAX])),
         "word 7" => area[7] = random.pick(&[1, 1 << 16]),
         "pattern" => area[3] = random.pick(&[1 << inputs, (1 << inputs) + 1, 4096, u32::MAX]),
         "reliability" => area[4] = units_above(random, U),
         "output" => {
             let at = gate_at(gates) + random.index(outputs as usize);
             area[at] = inputs + gates + random.pick(&[0, 0, 1, 65_536, u32::MAX / 2]);
+        }
+        // A gate that an output reads has another flip than the sum knows of.
+        "stale sum" => {
+            let reads = area[gate_at(gates)..needs].iter().map(|source| source.wrapping_sub(inputs));
+            let Some(gate) = reads.filter(|gate| *gate < gates).last() else {
+                return false;
+            };
+            let flip = &mut area[gate_at(gate) + model::FLIP];
+            *flip = if *flip == 0 { 1 } else { (*flip).min(U as u32) - 1 };
         }
         "one word short" => area.truncate(needs - 1),
         "below eight words" => area.truncate(random.index(8)),

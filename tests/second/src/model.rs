@@ -424,13 +424,13 @@ fn judge_area(area: &[u32]) -> Result<Counts, Refusal> {
     if area.len() < counts.words() {
         return refuse(13, 0);
     }
-    let head_is_good = area[PATTERN] < 1 << counts.inputs
-        && u64::from(area[RELIABILITY]) <= U
-        && area[5..HEAD] == [0, 0, 0];
+    let head_is_good =
+        area[PATTERN] < 1 << counts.inputs && u64::from(area[RELIABILITY]) <= U && area[7] == 0;
     let gates_are_good = (0..counts.gates).all(|gate| gate_words_are_good(area, counts, gate));
     let outputs_are_good =
         output_words(area, counts).iter().all(|source| *source < counts.inputs + counts.gates);
-    if head_is_good && gates_are_good && outputs_are_good {
+    let netlist_is_good = gates_are_good && outputs_are_good;
+    if head_is_good && netlist_is_good && area[5..7] == sum_words(area, counts) {
         Ok(counts)
     } else {
         refuse(14, 0)
@@ -444,6 +444,21 @@ fn gate_words_are_good(area: &[u32], counts: Counts, gate: u32) -> bool {
         && pins_are_earlier(counts.inputs, gate, &pins[..words[PIN_COUNT] as usize])
         && u64::from(words[FLIP]) <= U
         && u64::from(words[FIGURE]) <= 2 * U + 1
+}
+
+/// The flips of the gates that the area's words make live, added up: the low 32 bits
+/// and the high ones.
+pub fn sum_words(area: &[u32], counts: Counts) -> [u32; 2] {
+    let live = counts::live(area, counts);
+    let flips = (0..counts.gates).map(|gate| u64::from(area[gate_at(gate) + FLIP]));
+    let sum: u64 = flips.zip(live).filter(|(_, live)| *live).map(|(flip, _)| flip).sum();
+    [sum as u32, (sum >> 32) as u32]
+}
+
+/// Stores the sum of an area whose netlist is in order.
+pub fn store_sum(area: &mut [u32]) {
+    let sum = sum_words(area, Counts::of(area));
+    area[5..7].copy_from_slice(&sum);
 }
 
 fn output_words(area: &[u32], counts: Counts) -> &[u32] {
@@ -598,6 +613,7 @@ impl Model {
         }
         area[gate_at(counts.gates)..counts.words()].copy_from_slice(&netlist.outputs);
         self.work_out_all(area, counts);
+        store_sum(area);
         Ok(live_count(&netlist))
     }
 
@@ -630,6 +646,7 @@ impl Model {
         let mut which = dependents(area, counts, counts.inputs + gate);
         which[gate as usize] = true;
         self.work_out_some(area, counts, &which);
+        store_sum(area);
         Ok(())
     }
 

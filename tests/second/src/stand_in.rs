@@ -72,9 +72,15 @@ enum Fault {
     JoinsComments,
     /// Bytes that no name may have part words.
     ControlParts,
+    /// The flips of dead gates enter the sum at opening.
+    DeadSummed,
+    /// Setting a flip leaves the sum.
+    StaleSum,
+    /// The high word of the sum is always 0.
+    NoCarry,
 }
 
-const FAULTS: [(&str, Fault); 31] = [
+const FAULTS: [(&str, Fault); 34] = [
     ("round_down", Fault::RoundDown),
     ("half_up", Fault::HalfUp),
     ("dead_readers", Fault::DeadReaders),
@@ -106,6 +112,9 @@ const FAULTS: [(&str, Fault); 31] = [
     ("joins_before_cr", Fault::JoinsBeforeCr),
     ("joins_comments", Fault::JoinsComments),
     ("control_parts", Fault::ControlParts),
+    ("dead_summed", Fault::DeadSummed),
+    ("stale_sum", Fault::StaleSum),
+    ("no_carry", Fault::NoCarry),
 ];
 
 fn fault() -> Fault {
@@ -168,6 +177,14 @@ pub unsafe extern "C" fn bench_open(
         if fault() == Fault::PastEnd && area.len() > counts.words() {
             area[counts.words()] = 0;
         }
+        if fault() == Fault::DeadSummed {
+            let flip = |gate| u64::from(area[model::gate_at(gate) + model::FLIP]);
+            let sum: u64 = (0..counts.gates).map(flip).sum();
+            (area[5], area[6]) = (sum as u32, (sum >> 32) as u32);
+        }
+        if fault() == Fault::NoCarry {
+            area[6] = 0;
+        }
         if fault() == Fault::TwoUnitsOff {
             area[RELIABILITY] = area[RELIABILITY].saturating_sub(2 * count);
         }
@@ -214,11 +231,15 @@ pub unsafe extern "C" fn bench_set_flip(
         (kind, field) = (1, f64::from(product).to_le_bytes());
     }
     let answer = bench().set_flip(area, gate, kind, field);
-    if let (Fault::SetOnly, Answer::Done(())) = (fault(), answer) {
-        let at = model::gate_at(gate) + model::FLIP;
-        let units = area[at];
-        area.copy_from_slice(&before);
-        area[at] = units;
+    match (fault(), answer) {
+        (Fault::SetOnly, Answer::Done(())) => {
+            let at = model::gate_at(gate) + model::FLIP;
+            let units = area[at];
+            area.copy_from_slice(&before);
+            area[at] = units;
+        }
+        (Fault::StaleSum, Answer::Done(())) => area[5..7].copy_from_slice(&before[5..7]),
+        _ => {}
     }
     encode(&answer)
 }

@@ -9,7 +9,7 @@ use second::images::{
     break_area, chain, chance, foreign_area, good_draft, Draft, Record, Size, AREA_BREAKS,
     FIRST_CUT, NEVER,
 };
-use second::model::{gate_at, Counts, FIGURE, FLIP, GATE_WORDS, PATTERN, RELIABILITY, U};
+use second::model::{gate_at, store_sum, Counts, FIGURE, FLIP, GATE_WORDS, PATTERN, RELIABILITY, U};
 use second::random::{seed, Random};
 
 const SMALL: Size = Size { inputs: 4, gates: 10, outputs: 4 };
@@ -271,6 +271,7 @@ fn what_the_area_holds_of_a_pattern_has_no_part() {
             area[gate_at(gate) + FLIP] = random.below(U + 1) as u32;
             area[gate_at(gate) + FIGURE] = random.below(2 * U + 2) as u32;
         }
+        store_sum(&mut area);
         assert_eq!(METHODS.map(|method| counts(method, &area, &patterns)), before);
     }
 }

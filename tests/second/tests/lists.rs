@@ -86,6 +86,7 @@ fn check_area(area: &[u32], book: &Book, seen: &mut Seen) {
         "{units} units, exact {exact} thousandths, pattern {}: {:?}",
         book.pattern, book.netlist
     );
+    assert_eq!(area[5..8], book.head_sum(), "{:?}", book.netlist);
     seen.reliabilities += 1;
     let live = u64::from(model::live_count(&book.netlist));
     let distance = exact.abs_diff(1000 * u64::from(units));

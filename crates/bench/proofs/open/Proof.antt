@@ -1,9 +1,9 @@
 -- `bench::open` meets its contract. Assumes nothing.
-use mathlib.Core.List.{List, _++_}
+use mathlib.Core.List.{_++_}
 use mathlib.Core.Path.{_≡_, refl, sym, _∙_}
 use lib.ListN.{length}
 use Rattle.image.specs.Loading.{imageWords}
-use Rattle.image.proofs.Sound.{loaded-sound}
+use Rattle.image.proofs.Sound.{loaded-workable}
 use Rattle.bench.proofs.Opening.{loaded-front, open-judged, open-live, open-words, open-refused}
 use borrow.Author.Needs.{needs}
 use Rattle.bench.proofs.open.Statement.{statement}
@@ -16,8 +16,8 @@ open-loaded-requires c κs =
     let bs = s .args .image .now in
     let accepted = sym (at-load .ensures .0) ∙ c .before .before .enum-told .given .1 in
     let held : at-load .last .1 .0 ≡ imageWords bs ++ _ = at-load .ensures .1 accepted in (
-      rw held (loaded-sound bs _ accepted .workable .net),
-      λ rest. rw (loaded-front bs _ _ held) (loaded-sound bs rest accepted .workable),
+      rw held (loaded-workable bs _ accepted .net),
+      λ rest. rw (loaded-front bs _ _ held) (loaded-workable bs rest accepted),
     )
 
 returns : tie.Need-returns

@@ -7,7 +7,9 @@ use lib.ListN.{length, take, drop}
 use lib.Seq.{length-take-le, sets}
 use Rattle.lists.proofs.Parts.{sets-first}
 use Rattle.area.specs.Layout.{gates, outputs, needed}
+use Rattle.area.specs.Sum.{storedSum}
 use Rattle.work.specs.Work.{workAll}
+use Rattle.work.proofs.Frame.{same-work-all}
 use Rattle.calls.proofs.Judgements.{fine-room, short-room}
 use Rattle.bench.specs.Loaded.{loadedWords}
 use borrow.Author.Needs.{needs}
@@ -54,22 +56,34 @@ slice-aggregate-store c = sym (cut (c .before .before .before))
 store-requires : tie.Need-store-requires
 store-requires c κs = omega (arith, cut (c .before .before .before))
 
+-- what the area holds once the words are stored
+abbrev whole : tie.Start → List ℕ
+whole s = take (taken s) (words s) ++ drop (taken s) (area s)
+
 work-all-requires : tie.Need-work-all-requires
 work-all-requires c κs =
     let d = c .before .before .before .before .before .before .before in
     let s = start d in
-    let whole = c .before .before .before .store .ensures ∙ stored d (omega (arith, counted d)) in
-    rw whole (s .pre .1 (drop (taken s) (area s)))
+    rw (c .before .before .before .store .ensures ∙ stored d (omega (arith, counted d))) (s .pre .1 .0 (drop (taken s) (area s)))
+
+store-sum-requires : tie.Need-store-sum-requires
+store-sum-requires c κs =
+    let d = c .before .before .before .before .before .before .before .before .before .before .before in
+    let s = start d in
+    let worked = c .before .before .before .work-all .ensures
+    ∙ ap workAll (c .before .before .before .before .before .before .before .store .ensures ∙ stored d (omega (arith, counted d))) in
+    rw worked (omega (arith, same-work-all (whole s) .size, s .pre .1 .0 (drop (taken s) (area s)) .net .long))
 
 returns-2 : tie.Need-returns-2
 unfolding loadedWords
 returns-2 c =
-    let d = c .before .before .before .before .before .before .before .before .before .before in
+    let w = c .before .before .before .before .before .before in
+    let d = w .before .before .before .before .before .before .before .before in
     let s = start d in
     let room : taken s ≤ length (area s) = omega (arith, counted d) in
     let e = fine-room (gates (words s)) (outputs (words s)) (length (area s)) room in
-    let whole = c .before .before .before .before .before .before .store .ensures ∙ stored d room in
-    (rw e refl, rw e (c .before .before .work-all .ensures ∙ ap workAll whole))
+    let worked = w .work-all .ensures ∙ ap workAll (w .before .before .before .before .store .ensures ∙ stored d room) in
+    (rw e refl, rw e (c .before .before .store-sum .ensures ∙ ap₂ storedSum worked (s .pre .1 .1)))
 
 pub open-fitting-spec : {M : Type 1} → statement M
 open-fitting-spec =
@@ -82,5 +96,6 @@ open-fitting-spec =
     slice-aggregate-store
     store-requires
     work-all-requires
+    store-sum-requires
     (λ c. search needs)
     returns-2)

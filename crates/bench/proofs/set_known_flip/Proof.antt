@@ -1,42 +1,138 @@
 -- `bench::set_known_flip` meets its contract. Assumes nothing.
-use mathlib.Core.Bool.{Bool}
-use mathlib.Core.Path.{_≡_, refl, sym, ap, ap₂, _∙_}
+use Prim.Native.Nat.{ℕ, _+_, _*_, _≤_, _<_}
+use mathlib.Core.Bool.{Bool, true}
+use mathlib.Core.List.{List, []}
+use mathlib.Core.Path.{_≡_, refl, sym, ap, ap₂, subst, _∙_}
+use native.Mathlib.Nat.{mul-le-mul-right}
 use native.Mathlib.Omega.{arith}
 use Rattle.refusal.specs.Judgement.{refuseUnless}
 use Rattle.refusal.proofs.Laws.{otherwise-second}
+use Rattle.chance.specs.Flip.{flipAccepted, flipUnits}
 use Rattle.chance.proofs.Laws.{units-accepted, units-refused, flip-units-at-most}
-use Rattle.area.specs.Layout.{inputs, gates}
+use Rattle.netlist.specs.Live.{readers}
+use Rattle.area.specs.Layout.{mostGates, largestFlip, inputs, gates, flip}
+use Rattle.area.specs.Rules.{NetSound, Sound}
+use Rattle.area.specs.Net.{netOf}
+use Rattle.area.specs.Sum.{flipIf, liveFlip, flipSum, storedSum, withSum}
+use Rattle.area.proofs.Sum.{few-units, sum-has}
 use Rattle.work.specs.Work.{setWords}
+use Rattle.work.proofs.Frame.{same-set}
+use Rattle.work.proofs.Sound.{set-sum}
 use Rattle.calls.specs.Judgements.{read-gate, flipJudgement, lentJudgement}
 use Rattle.calls.proofs.Judgements.{lent-fine, gate-fine, set-after-gate}
 use borrow.Author.Needs.{needs}
 use Rattle.bench.proofs.set_known_flip.Statement.{statement}
 use Rattle.bench.proofs.set_known_flip.Tie as tie
 
+-- the area keeps rule 14, and the gate is there
+passed : (s : tie.Start) → Sound (s .args .area .now)
+passed s = lent-fine (s .args .area .now) (read-gate (s .args .gate)) (s .pre .0) .0
+
+there : (s : tie.Start) → s .args .gate < gates (s .args .area .now)
+there s =
+    let ws = s .args .area .now in
+    gate-fine (inputs ws) (gates ws) (s .args .gate) (lent-fine ws (read-gate (s .args .gate)) (s .pre .0) .1)
+
+flip-requires : tie.Need-flip-requires
+flip-requires c κs =
+    let s = c .before .before .before .before .before .before .before in
+    omega (arith, c .index .ensures, there s, passed s .workable .net .long)
+
+-- the flip is accepted
+module _ (c : tie.After-index2) where
+  abbrev start : tie.Start
+  start = c .before .before .before .before .before .before .before .before .before .before
+
+  abbrev ws : List ℕ
+  ws = start .args .area .now
+
+  abbrev g : ℕ
+  g = start .args .gate
+
+  abbrev units : ℕ
+  units = c .before .before .before .before .before .before .units .given .0 .0
+
+  accepted : (flipAccepted (start .args .kind) (start .args .field) ≡ true) × (flipUnits (start .args .kind) (start .args .field) ≡ units)
+  accepted =
+      units-accepted (start .args .kind) (start .args .field) units
+      (sym (c .before .before .before .before .before .before .before .before .read-units .ensures)
+      ∙ c .before .before .before .before .before .before .units .given .1)
+
+  net : NetSound ws
+  net = passed start .workable .net
+
+  -- what setting it leaves, but for the sum
+  abbrev worked : List ℕ
+  worked = setWords ws g units
+
+  -- the flip that it had, and what that added to the sum
+  old-is : c .before .before .flip .result ≡ flip ws g
+  old-is = c .before .before .flip .ensures ∙ ap (flip ws) (c .before .before .before .index .ensures)
+
+  had : flipIf (start .args .live) (c .before .before .flip .result) ≡ liveFlip ws g
+  had = ap₂ flipIf (start .pre .1 .0) old-is
+
+  enough : liveFlip ws g ≤ start .args .sum
+  enough = subst (λ (sum : ℕ). liveFlip ws g ≤ sum) (sym (start .pre .1 .1)) (sum-has ws g (there start))
+
+  few : start .args .sum ≤ mostGates * largestFlip
+  few =
+      omega (
+        arith,
+        start .pre .1 .1,
+        few-units ws largestFlip (passed start .workable .figures .flip-fits),
+        mul-le-mul-right largestFlip (net .gates-fit),
+      )
+
 set-units-requires : tie.Need-set-units-requires
 set-units-requires c κs =
-    let s = c .before .before .before .before .before .before .before in
-    let at-read-units = c .before .before .before .before .before .read-units in
-    let at-units = c .before .before .before .units in
-    let a = s .args in
-    let u = units-accepted (a .kind) (a .field) (at-units .given .0 .0) (sym (at-read-units .ensures) ∙ at-units .given .1) in
-    let p = lent-fine (a .area .now) (read-gate (a .gate)) (s .pre) in
-    let below = gate-fine (inputs (a .area .now)) (gates (a .area .now)) (a .gate) (p .1) in
-    (p .0 .workable, (omega (arith, c .index .ensures), rw (← u .1) (flip-units-at-most (a .kind) (a .field) (u .0))))
+    let a = start c .args in (
+      passed (start c) .workable,
+      (omega (arith, c .index2 .ensures, there (start c)), rw (← accepted c .1) (flip-units-at-most (a .kind) (a .field) (accepted c .0))),
+    )
+
+changed-sum-requires : tie.Need-changed-sum-requires
+changed-sum-requires c κs =
+    let d = c .before .before .before .before in
+    let a = start d .args in
+    let fits = rw (accepted d .1) at (flip-units-at-most (a .kind) (a .field) (accepted d .0)) in
+    (omega (arith, had d, enough d), omega (arith, few d, fits))
+
+-- what the flip is set in
+set-is : (c : tie.After-set-units) → c .set-units .last .0 ≡ worked (c .before)
+set-is c = c .set-units .ensures ∙ ap (λ (k : ℕ). setWords (ws (c .before)) k (units (c .before))) (c .before .index2 .ensures)
+
+store-sum-requires : tie.Need-store-sum-requires
+store-sum-requires c κs =
+    let u = c .before .before .before .before in
+    let d = u .before in
+    rw (set-is u) (omega (arith, same-set (ws d) (g d) (units d) (there (start d)) .size, net d .long))
 
 returns : tie.Need-returns
+unfolding withSum
 returns c =
-    let s = c .before .before .before .before .before .before .before .before .before .before in
-    let at-read-units = c .before .before .before .before .before .before .before .before .read-units in
-    let at-units = c .before .before .before .before .before .before .units in
-    let at-index = c .before .before .before .index in
-    let a = s .args in
-    let u = units-accepted (a .kind) (a .field) (at-units .given .0 .0) (sym (at-read-units .ensures) ∙ at-units .given .1) in
+    let u = c .before .before .before .before .before .before .before in
+    let d = u .before in
+    let a = start d .args in
     let judged =
-    set-after-gate (a .area .now) (a .gate) (a .kind) (a .field)
-    ∙ otherwise-second (lentJudgement (a .area .now) (read-gate (a .gate))) (flipJudgement (a .gate) (a .kind) (a .field)) (s .pre)
-    ∙ ap (λ (b : Bool). refuseUnless b 11 (a .gate)) (u .0) in
-    (rw (u .0) refl, rw judged (c .before .before .set-units .ensures ∙ ap₂ (setWords (a .area .now)) (at-index .ensures) (sym (u .1))))
+    set-after-gate (ws d) (a .gate) (a .kind) (a .field)
+    ∙ otherwise-second (lentJudgement (ws d) (read-gate (a .gate))) (flipJudgement (a .gate) (a .kind) (a .field)) (start d .pre .0)
+    ∙ ap (λ (b : Bool). refuseUnless b 11 (a .gate)) (accepted d .0) in
+    let has : flipIf (a .live) (units d) ≡ flipIf (readers (netOf (ws d) [] []) (inputs (ws d) + g d)) (units d)
+    = ap (λ (r : ℕ). flipIf r (units d)) (start d .pre .1 .0) in
+    let sum : c .before .before .before .changed-sum .result ≡ flipSum (worked d)
+    = omega (
+      arith,
+      c .before .before .before .changed-sum .ensures,
+      had d,
+      has,
+      start d .pre .1 .1,
+      set-sum (ws d) (g d) (units d) (there (start d)) (net d),
+    ) in
+    let flips = ap (setWords (ws d) (g d)) (sym (accepted d .1)) in (
+      rw (accepted d .0) refl,
+      rw judged (c .before .before .store-sum .ensures ∙ ap₂ storedSum (set-is u ∙ flips) (sum ∙ ap flipSum flips)),
+    )
 
 returns-2 : tie.Need-returns-2
 returns-2 c =
@@ -45,7 +141,7 @@ returns-2 c =
     let u = units-refused (a .kind) (a .field) (sym (c .before .before .read-units .ensures) ∙ c .enum-told .given .1) in
     let judged =
     set-after-gate (a .area .now) (a .gate) (a .kind) (a .field)
-    ∙ otherwise-second (lentJudgement (a .area .now) (read-gate (a .gate))) (flipJudgement (a .gate) (a .kind) (a .field)) (s .pre)
+    ∙ otherwise-second (lentJudgement (a .area .now) (read-gate (a .gate))) (flipJudgement (a .gate) (a .kind) (a .field)) (s .pre .0)
     ∙ ap (λ (b : Bool). refuseUnless b 11 (a .gate)) u in
     (rw u refl, rw judged refl)
 
@@ -56,7 +152,11 @@ set-known-flip-spec =
     (λ c κs. search needs)
     (λ c. search needs)
     (λ c κs. search needs)
+    flip-requires
+    (λ c κs. search needs)
     set-units-requires
+    changed-sum-requires
+    store-sum-requires
     (λ c. search needs)
     (λ c. search needs)
     returns

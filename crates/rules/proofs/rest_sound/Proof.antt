@@ -4,7 +4,7 @@ use mathlib.Core.Bool.{Bool, true, _&&_}
 use mathlib.Core.List.{List}
 use mathlib.Core.Path.{_≡_, sym, _∙_}
 use native.Mathlib.Omega.{arith}
-use borrow.Author.Tests.{le-leb, lt-leb, lt-ltb, le-ltb}
+use borrow.Author.Tests.{lt-ltb, le-ltb}
 use lib.Dec.{ltb}
 use Rattle.lists.specs.Lists.{allBelow}
 use Rattle.area.specs.Layout.{inputs, gates, pattern, reliabilityIndex, outputWords}
@@ -58,20 +58,14 @@ returns-3 c =
     let above = le-ltb _ _ (rw (shift (c .before)) at (c .if3 .taken)) in
     sym (past-outputs (c .before .before .before) _ ∙ failed _ above)
 
-cast-if4 : tie.Need-cast-if4
-cast-if4 c = omega (arith, c .shared-slice-known3 .given reliabilityIndex)
+cast-result : tie.Need-cast-result
+cast-result c = omega (arith, c .shared-slice-known3 .given reliabilityIndex)
 
 returns-4 : tie.Need-returns-4
 unfolding restSound
 returns-4 c =
-    let first = past-outputs (c .before .before .before .before .before) _ in
-    sym (first ∙ passed _ (pattern-passed (c .before .before)) ∙ failed _ (lt-leb _ _ (c .if4 .taken)))
-
-returns-5 : tie.Need-returns-5
-unfolding restSound
-returns-5 c =
-    let first = past-outputs (c .before .before .before .before .before .before) _ in
-    c .reserved-right .ensures ∙ sym (first ∙ passed _ (pattern-passed (c .before .before .before)) ∙ passed _ (le-leb _ _ (c .before .if4 .left)))
+    let first = past-outputs (c .before .before .before .before) _ in
+    sym (first ∙ passed _ (pattern-passed (c .before)))
 
 pub rest-sound-spec : {M : Type 1} → statement M
 rest-sound-spec =
@@ -87,7 +81,5 @@ rest-sound-spec =
     (λ c. search needs)
     returns-3
     (λ c. search needs)
-    cast-if4
-    returns-4
-    (λ c κs. search needs)
-    returns-5)
+    cast-result
+    returns-4)
