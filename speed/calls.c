@@ -1,6 +1,6 @@
-/* Times the calls of the proved library beside the same steps written in C, on the same netlists in one run: open, toggle_input, set_flip, average,
-   counts_by_flip and counts_by_mask on forests of 2-, 3- and 4-pin gates, a chain, a forest whose gates are mostly dead, 64 narrow trees of three inputs
-   each and one balanced tree; 12 inputs, 1,024 gates, and 4,096 random patterns for the counts. Average stands beside the faster of two walks in C, over
+/* Times the calls of the proved library beside the same steps written in C, on the same netlists in one run: open, toggle_input, set_flip, the two reads,
+   average, counts_by_flip and counts_by_mask on forests of 2-, 3- and 4-pin gates, a chain, a forest whose gates are mostly dead, 64 narrow trees of three
+   inputs each and one balanced tree; 12 inputs, 1,024 gates, and 4,096 random patterns for the counts. Average stands beside the faster of two walks in C, over
    every gate and in Gray order, and beside its own walk in C (rows). Build and run: speed/run-calls.
    The C steps make the same checks as the library: refusals 1 to 9 and 13 at opening, 13 and 14 on every other call, 15 to 17 before counting. */
 #include "netlists.h"
@@ -481,6 +481,23 @@ __attribute__((noinline)) static uint32_t c_average_rows(uint32_t *a, size_t len
     return average_of(sum, total);
 }
 
+/* ---- reads: nothing but the checks */
+
+__attribute__((noinline)) static uint64_t c_read_netlist(const uint32_t *a, size_t len, uint32_t *pattern, uint32_t *units, double *reliability) {
+    int no = c_judge(a, len);
+    if (no) return (uint64_t)no << 32;
+    *pattern = a[3], *units = a[4], *reliability = a[4] / (double)U;
+    return 0;
+}
+
+__attribute__((noinline)) static uint64_t c_read_gate(const uint32_t *a, size_t len, uint32_t gate, uint32_t *right, uint32_t *failure) {
+    int no = c_judge(a, len);
+    if (no) return (uint64_t)no << 32;
+    if (gate >= a[1]) return 10ull << 32 | gate;
+    *right = a[8 + 8 * gate + 7] & 1, *failure = a[8 + 8 * gate + 7] >> 1;
+    return 0;
+}
+
 static uint32_t mine[WORDS], theirs[WORDS], weights[4096], listed[4096], my_counts[G], their_counts[G];
 
 static void same(const char *what) {
@@ -511,11 +528,25 @@ static void time_counts(double best[4]) {
     }
 }
 
+/* The best times of both reads, library and C after each other. */
+static void time_reads(double best[4]) {
+    uint32_t p1 = 0, p2 = 0, u1 = 0, u2 = 0, r1 = 0, r2 = 0, f1 = 0, f2 = 0;
+    double d1 = 0, d2 = 0;
+    for (int t = 0; t < 4; t++) best[t] = 1e18;
+    for (int t = 0; t < 60; t++) {
+        TIME(best[0], 24, bench_read_netlist(mine, WORDS, &p1, &u1, &d1));
+        TIME(best[1], 24, c_read_netlist(mine, WORDS, &p2, &u2, &d2));
+        TIME(best[2], 24, bench_read_gate(mine, WORDS, 40 * r_, &r1, &f1));
+        TIME(best[3], 24, c_read_gate(mine, WORDS, 40 * r_, &r2, &f2));
+        if (p1 != p2 || u1 != u2 || d1 != d2 || r1 != r2 || f1 != f2) { printf("the readings differ\n"); exit(1); }
+    }
+}
+
 /* a row: call, netlist, the library's best time and C's, in ns */
 static void tell(const char *call, int kind, double here, double c) { printf("%s\t%s\t%.0f\t%.0f\n", call, kinds[kind], here, c); }
 
 int main(void) {
-    double counted[4];
+    double counted[4], read[4];
     uint64_t kept = seed;
     for (int q = 0; q < 4096; q++) weights[q] = 1, listed[q] = next() % 4096;
     seed = kept; /* so that the patterns do not change the netlists */
@@ -552,7 +583,9 @@ int main(void) {
             same("average");
         }
         time_counts(counted);
+        time_reads(read);
         tell("open", kind, o1, o2), tell("toggle_input", kind, t1, t2), tell("set_flip", kind, s1, s2), tell("average", kind, a1, a2 < a3 ? a2 : a3);
+        tell("read_netlist", kind, read[0], read[1]), tell("read_gate", kind, read[2], read[3]);
         tell("average, same walk", kind, a1, a4);
         tell("counts_by_flip", kind, counted[0], counted[1]), tell("counts_by_mask", kind, counted[2], counted[3]);
     }

@@ -140,9 +140,9 @@ seenAtOne field = buffer 0 field ++ (andGate 0 1 0 never ++ (twoBytes (2 ∷ [])
 abbrev pub mixedImage : List ℕ
 mixedImage = buffer 0 twentieth ++ (buffer 0 half ++ (gateRecord 1 2 1 0 0 never ++ (twoBytes (3 ∷ []) ++ trailer 1 3 1)))
 
--- five buffers behind each other, the last of them with this flip, the others with chance 1
-abbrev pub longImage : List ℕ → List ℕ
-longImage last = buffer 0 one ++ (buffer 1 one ++ (buffer 2 one ++ (buffer 3 one ++ (buffer 4 last ++ (twoBytes (5 ∷ []) ++ trailer 1 5 1)))))
+-- five buffers behind each other, gate 1 and the last of them with these flips, the others with chance 1
+abbrev pub longImage : List ℕ → List ℕ → List ℕ
+longImage second last = buffer 0 one ++ (buffer 1 second ++ (buffer 2 one ++ (buffer 3 one ++ (buffer 4 last ++ (twoBytes (5 ∷ []) ++ trailer 1 5 1)))))
 
 -- ---- openings: how an image is judged and its live gates; and, unless it is refused, the reliability and the exact sum at each pattern in rising order,
 -- the average with all weights 1, and every gate's failure at pattern 0. The exact sums are fractions of `parts`.
@@ -238,9 +238,10 @@ summings =
     record { image = printedImage; opened = 1_073_741_824 ∷ 0 ∷ []; reset = 1_610_612_736 ∷ 0 ∷ [] }
     -- gate 0 is live, gate 1 dead, and gate 2 live and without a flip
     ∷ record { image = mixedImage; opened = 53_687_091 ∷ 0 ∷ []; reset = 53_687_091 ∷ 0 ∷ [] }
-    -- five live gates pass 2^32, and four reach it
-    ∷ record { image = longImage one; opened = 1_073_741_824 ∷ 1 ∷ []; reset = 1_073_741_824 ∷ 1 ∷ [] }
-    ∷ record { image = longImage never; opened = 0 ∷ 1 ∷ []; reset = 0 ∷ 1 ∷ [] }
+    -- five live gates pass 2^32, four reach it, and three stay below it until a fourth is set
+    ∷ record { image = longImage one one; opened = 1_073_741_824 ∷ 1 ∷ []; reset = 1_073_741_824 ∷ 1 ∷ [] }
+    ∷ record { image = longImage one never; opened = 0 ∷ 1 ∷ []; reset = 0 ∷ 1 ∷ [] }
+    ∷ record { image = longImage never never; opened = 3_221_225_472 ∷ 0 ∷ []; reset = 0 ∷ 1 ∷ [] }
     ∷ []
 
 -- ---- what the definitions give for each column

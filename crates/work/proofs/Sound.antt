@@ -26,7 +26,8 @@ use Rattle.area.proofs.Sum.{same-sum, changed-sum, stored-other, stored-low, st
 use Rattle.area.specs.Figures.{gateWordFrom, productFrom}
 use Rattle.area.proofs.Words.{gate-inside, used-below, output-below}
 use Rattle.work.specs.Work.{gateFigure, workGate, reliabilityNow, workReliability, workAll, workIf, markOf, invertBit, toggleWords, setWords}
-use Rattle.work.proofs.Frame.{SameFrame, same-inputs, same-gates, same-outputs, same-pin-count, same-table, same-pins, same-output-words, same-reserved, frame-same-net}
+use Rattle.work.proofs.Frame.{SameFrame, same-inputs, same-gates, same-outputs, same-pin-count, same-table, same-pins, same-output-words}
+use Rattle.work.proofs.Frame.{same-reserved, frame-same-net}
 use Rattle.work.proofs.Frame.{Walk, end, next, gates-walk, marked-walk, set-walk, same-work-gate, same-work-if, same-work-reliability}
 use Rattle.work.proofs.Frame.{same-store-pattern, same-store-flip, same-store-sum, same-work-all, same-toggle, same-set}
 use Rattle.work.proofs.Frame.{store-kept, worked-kept, work-all-kept, toggle-kept, set-kept, low-unworked, high-unworked, flip-unworked, work-all-flip}

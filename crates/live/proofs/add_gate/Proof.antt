@@ -47,7 +47,8 @@ returns-2 c =
     let some = rw (d .before .before .before .inputs .ensures) at (d .if1 .left) in (
       d .before .before .flip .ensures ∙ sym (flip-live (getD xs (inputs ws + a .gate) 0) (flip ws (a .gate)) (omega (arith, some))),
       live-added (getD xs (inputs ws + a .gate) 0) (usedPins ws (a .gate)) xs (c .add-reads .last .0) (omega (arith, some))
-          (rw (c .before .before .pins-index .ensures, c .before .pin-count .ensures, used-at ws (s .pre .0 .0) (a .gate) (s .pre .0 .1)) at (c .add-reads .ensures)),
+          (rw (c .before .before .pins-index .ensures, c .before .pin-count .ensures, used-at ws (s .pre .0 .0) (a .gate) (s .pre .0 .1))
+          at (c .add-reads .ensures)),
     )
 
 pub add-gate-spec : {M : Type 1} → statement M
