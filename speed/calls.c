@@ -57,12 +57,14 @@ static int c_gate_bad(uint32_t count, uint32_t table, const uint32_t *pins, uint
 /* the raw flip sum in one way back; live[s] is set where source s has a live reader */
 static uint64_t c_sum(const uint32_t *a, uint8_t *live) {
     uint64_t sum = 0;
-    for (uint32_t k = 0; k < a[2]; k++) live[a[8 + 8 * a[1] + k]] = 1;
-    for (uint32_t j = a[1]; j-- > 0;) {
+    uint32_t n = a[0], gates = a[1], outputs = a[2]; /* bytes may lie anywhere, so that a store into them would ask for these words again */
+    for (uint32_t k = 0; k < outputs; k++) live[a[8 + 8 * gates + k]] = 1;
+    for (uint32_t j = gates; j-- > 0;) {
         const uint32_t *g = a + 8 + 8 * j;
-        if (!live[a[0] + j]) continue;
+        uint32_t count = g[0];
+        if (!live[n + j]) continue;
         sum += g[6];
-        for (uint32_t i = 0; i < g[0]; i++) live[g[2 + i]] = 1;
+        for (uint32_t i = 0; i < count; i++) live[g[2 + i]] = 1;
     }
     return sum;
 }
