@@ -13,16 +13,17 @@ use Rattle.netlist.specs.Netlist.{Netlist}
 use Rattle.netlist.specs.WellFormed.{WellFormed}
 use Rattle.netlist.specs.Live.{SingleReaders}
 use Rattle.netlist.specs.Sum.{rawFlipSum}
-use Rattle.bound.proofs.Average.{reliability-bound}
+use Rattle.bound.specs.Sharp.{KindsHonest}
+use Rattle.bound.proofs.Average.{reliability-bound, sharp-bound}
 use Rattle.area.specs.Layout.{inputs, gates, pattern, needed, outputs}
 use Rattle.area.specs.Rules.{Sound, NetSound, roomJudgement}
 use Rattle.area.specs.Net.{netOf}
 use Rattle.area.specs.Sum.{flipSum, lowBits, highBits}
 use Rattle.area.proofs.Sum.{sum-held}
-use Rattle.area.proofs.Net.{sound-net, gate-count}
+use Rattle.area.proofs.Net.{sound-net, gate-count, gate-at}
 use Rattle.fresh.specs.Fresh.{Fresh, Converted}
 use Rattle.book.specs.Book.{Book}
-use Rattle.book.specs.Statement.{WithinBound, Current}
+use Rattle.book.specs.Statement.{WithinBound, WithinSharp, Current}
 use Rattle.refusal.specs.declared.Judgement.the-variants.{Fine}
 use Rattle.refusal.specs.Judgement.{refuseUnless}
 use Rattle.fresh.specs.Statements.{FiguresHeld}
@@ -41,6 +42,7 @@ pub record Agree (size : ℕ) (ws : List ℕ) (b : Book) : Type 0 where
   pub held : netOf ws kinds chances ≡ b .net
   pub converted : Converted chanceScale ws chances
   pub chances-fit : (j : ℕ) → j < gates ws → getD chances j 0 ≤ chanceScale
+  pub honest : (j : ℕ) → j < gates ws → getD kinds j 0 ≡ 0 → getD chances j 0 ≡ 0
   pub same-pattern : pattern ws ≡ b .pattern
   pub single : SingleReaders (b .net)
 
@@ -71,6 +73,15 @@ module _ (size : ℕ) (ws : List ℕ) (b : Book) (agree : Agree size ws b) where
   pub well-formed : WellFormed chanceScale (b .net)
   well-formed = subst (WellFormed chanceScale) (agree .held) (sound-net chanceScale ws (agree .kinds) (agree .chances) net (agree .chances-fit))
 
+  -- a gate of kind 0 has chance 0
+  pub kinds-honest : KindsHonest (b .net)
+  kinds-honest = subst KindsHonest (agree .held) of-words
+    where
+      of-words : KindsHonest (netOf ws (agree .kinds) (agree .chances))
+      of-words j l =
+          let inside : j < gates ws = omega (arith, gate-count ws (agree .kinds) (agree .chances)) in
+          rw (gate-at ws (agree .kinds) (agree .chances) j inside) (agree .honest j inside)
+
   pub figures-held : FiguresHeld chanceScale (b .net) (b .pattern) ws
   figures-held =
       subst (λ (q : ℕ). FiguresHeld chanceScale (b .net) q ws) (agree .same-pattern)
@@ -88,6 +99,9 @@ module _ (size : ℕ) (ws : List ℕ) (b : Book) (agree : Agree size ws b) where
         within =
             subst (λ (units : ℕ). WithinBound units b) (sym (figures-held .product))
             (reliability-bound unitsInOne chanceScale (omega arith) chance-scale-positive (b .net) well-formed (agree .single) (b .pattern));
+        sharp =
+            subst (λ (units : ℕ). WithinSharp units b) (sym (figures-held .product))
+            (sharp-bound unitsInOne chanceScale (omega arith) chance-scale-positive (b .net) well-formed (agree .single) kinds-honest (b .pattern));
         figures = figures-held;
         sum = record { low = agree .sound .sum .low ∙ ap lowBits sum-is; high = agree .sound .sum .high ∙ ap highBits sum-is };
       }

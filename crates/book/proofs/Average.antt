@@ -12,7 +12,7 @@ use Rattle.netlist.specs.Figures.{reliability}
 use Rattle.lists.specs.Lists.{sumBelow}
 use Rattle.netlist.specs.Average.{totalWeight, averageUnits}
 use Rattle.lists.proofs.Sums.{sum-same, some-sum}
-use Rattle.bound.proofs.Average.{average-bound}
+use Rattle.bound.proofs.Average.{average-bound, sharp-average}
 use Rattle.area.specs.Layout.{inputs, gates, patternIndex, pattern, flipIndex, flip}
 use Rattle.work.specs.Work.{workAll}
 use Rattle.work.proofs.Frame.{same-gates, same-trans, same-store-pattern, same-work-all, work-all-flip, work-all-pattern}
@@ -21,8 +21,8 @@ use Rattle.fresh.proofs.Bridge.{reliability-holds}
 use Rattle.fresh.proofs.Calls.{frame-net}
 use Rattle.calls.specs.Calls.{reliabilityFor, averageOf}
 use Rattle.book.specs.Book.{Book}
-use Rattle.book.specs.Statement.{AverageWithin}
-use Rattle.book.proofs.Agree.{Agree, chance-scale-positive, same-input-count, well-formed}
+use Rattle.book.specs.Statement.{AverageWithin, AverageSharp}
+use Rattle.book.proofs.Agree.{Agree, chance-scale-positive, same-input-count, well-formed, kinds-honest}
 use Rattle.calls.specs.Judgements.{WeightsFit}
 use Rattle.work.proofs.Sound.{net-same}
 
@@ -62,8 +62,17 @@ module _ (size : ℕ) (ws : List ℕ) (b : Book) (agree : Agree size ws b) where
       ∙ ap (λ (k : ℕ). sumBelow (2 ^ k) (λ q. getD weights q 0 * reliability unitsInOne chanceScale (b .net) q)) n)
       (ap (λ (k : ℕ). sumBelow (2 ^ k) (λ q. getD weights q 0)) n)
 
+  positive : (weights : List ℕ) → WeightsFit (inputs ws) weights → 0 < totalWeight (b .net) weights
+  positive weights fit = total-positive (b .net) weights (subst (λ (n : ℕ). WeightsFit n weights) (same-input-count size ws b agree) fit)
+
+  pub average-sharp : (weights : List ℕ) → WeightsFit (inputs ws) weights → AverageSharp (averageOf ws weights) weights b
+  average-sharp weights fit =
+      subst (λ (units : ℕ). AverageSharp units weights b) (sym (average-is weights))
+      (sharp-average unitsInOne chanceScale (omega arith) chance-scale-positive (b .net) (well-formed size ws b agree) (agree .single)
+      (kinds-honest size ws b agree) weights (positive weights fit))
+
   pub average-within : (weights : List ℕ) → WeightsFit (inputs ws) weights → AverageWithin (averageOf ws weights) weights b
   average-within weights fit =
       subst (λ (units : ℕ). AverageWithin units weights b) (sym (average-is weights))
       (average-bound unitsInOne chanceScale (omega arith) chance-scale-positive (b .net) (well-formed size ws b agree) (agree .single) weights
-      (total-positive (b .net) weights (subst (λ (n : ℕ). WeightsFit n weights) (same-input-count size ws b agree) fit)))
+      (positive weights fit))

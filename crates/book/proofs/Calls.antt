@@ -10,7 +10,7 @@ use lib.ListN.{getD, set, length-set}
 use lib.Seq.{getD-set-same, getD-set-other}
 use Rattle.chance.specs.Number.{chanceScale}
 use Rattle.chance.specs.Flip.{flipAccepted, flipChance}
-use Rattle.chance.proofs.Laws.{flip-chance-at-most, flip-units-at-most}
+use Rattle.chance.proofs.Laws.{flip-chance-at-most, flip-units-at-most, never-chance}
 use Rattle.netlist.specs.Netlist.{Netlist}
 use Rattle.netlist.specs.declared.Method.{Method}
 use Rattle.netlist.specs.declared.Method.the-variants.{Flip}
@@ -34,7 +34,7 @@ use Rattle.book.specs.Book.{Book, withFlip, entered, imageBook}
 use Rattle.book.proofs.Agree.{Agree}
 use Rattle.book.proofs.Shown.{Shown, Lent, shown-lent}
 use Rattle.book.proofs.Flip.{flip-net}
-use Rattle.book.proofs.Average.{average-within}
+use Rattle.book.proofs.Average.{average-within, average-sharp}
 use Rattle.book.proofs.Open.{opened}
 use Rattle.book.specs.Statement.{AnswerKept}
 use Rattle.calls.specs.Judgements.{Call, argumentJudgement, openJudgement}
@@ -67,6 +67,7 @@ toggled i size ws b agree l =
       held = toggle-net ws i (agree .kinds) (agree .chances) ∙ agree .held;
       converted = toggle-converted chanceScale ws (agree .chances) i (agree .converted);
       chances-fit = λ j k. agree .chances-fit j (omega arith);
+      honest = λ j k. agree .honest j (omega arith);
       same-pattern = toggle-pattern ws i (agree .sound .workable .net) ∙ ap (λ (q : ℕ). invertBit q i) (agree .same-pattern);
       single = agree .single;
     }
@@ -117,6 +118,17 @@ flip-set g kind field size ws b agree l accepted =
           (subst (λ (c : ℕ). c ≤ chanceScale) (sym (getD-set-same (agree .chances) g chance 0 (omega arith))) (flip-chance-at-most kind field accepted)))
           (λ other.
           subst (λ (c : ℕ). c ≤ chanceScale) (sym (getD-set-other (agree .chances) g j chance 0 other)) (agree .chances-fit j (omega arith)));
+      honest =
+          λ j k.
+          by-cases (ℕ-discrete j g)
+          (λ e.
+          subst (λ (t : ℕ). getD kinds t 0 ≡ 0 → getD chances t 0 ≡ 0) (sym e)
+          (λ none.
+          getD-set-same (agree .chances) g chance 0 (omega arith)
+          ∙ never-chance kind field (sym (getD-set-same (agree .kinds) g kind 0 (omega arith)) ∙ none)))
+          (λ other none.
+          getD-set-other (agree .chances) g j chance 0 other
+          ∙ agree .honest j (omega arith) (sym (getD-set-other (agree .kinds) g j kind 0 other) ∙ none));
       same-pattern = with-sum-pattern worked ∙ set-pattern ws g units l ∙ agree .same-pattern;
       single =
           subst SingleReaders entry
@@ -174,5 +186,8 @@ shown-average weights =
     (record {
       agrees =
           λ size ws b agree e. subst (λ (vs : List ℕ). Agree size vs b) (sym (fresh-fixed ws (agree .sound .workable .net) (agree .fresh))) agree;
-      answers = λ size ws b agree e. average-within size ws b agree weights (weights-fine (inputs ws) weights e);
+      answers =
+          λ size ws b agree e.
+          let fit = weights-fine (inputs ws) weights e in
+          (average-within size ws b agree weights fit, average-sharp size ws b agree weights fit);
     })

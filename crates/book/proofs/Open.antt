@@ -1,7 +1,7 @@
 -- An accepted image, opened, leaves words that agree with its book. Assumes nothing.
-use Prim.Native.Nat.{ℕ, _≤_}
+use Prim.Native.Nat.{ℕ, _≤_, _<_}
 use mathlib.Core.List.{List, _++_}
-use mathlib.Core.Path.{_≡_, _∙_}
+use mathlib.Core.Path.{_≡_, sym, _∙_}
 use native.Mathlib.Omega.{arith}
 use lib.ListN.{length, drop, length-append, length-drop}
 use Rattle.refusal.specs.declared.Judgement.the-variants.{Fine}
@@ -13,12 +13,13 @@ use Rattle.work.proofs.Frame.{same-gates, same-reserved, same-trans, same-work-
 use Rattle.work.proofs.Sound.{workable-work-all, sound-with-sum}
 use Rattle.fresh.proofs.WorkAll.{work-all-fresh}
 use Rattle.fresh.proofs.Calls.{frame-net, same-with-sum, with-sum-fresh, with-sum-flip, with-sum-pattern}
-use Rattle.image.specs.Image.{imageGates, imageOutputs}
-use Rattle.image.specs.Loading.{imageWords, imageKinds, imageChances}
+use Rattle.image.specs.Image.{imageGates, imageOutputs, middle, recordKind, recordField}
+use Rattle.image.specs.Loading.{recordChance, imageWords, imageKinds, imageChances}
 use Rattle.image.specs.Netlist.{imageNet}
 use Rattle.image.proofs.Middle.{length-words}
 use Rattle.image.proofs.Words.{head-gates, head-pattern}
-use Rattle.image.proofs.Sound.{loaded-workable, loaded-reserved, length-kinds, length-chances, chances-fit, flips-at}
+use Rattle.image.proofs.Sound.{loaded-workable, loaded-reserved, length-kinds, length-chances, kind-at, chance-at, chances-fit, flips-at}
+use Rattle.chance.proofs.Laws.{never-chance}
 use Rattle.image.proofs.Netlist.{image-net}
 use Rattle.calls.specs.Judgements.{openJudgement}
 use Rattle.calls.specs.Calls.{openWords}
@@ -34,7 +35,7 @@ opened-length bs ws room =
     omega (arith, length-append (imageWords bs) rest, length-words bs, length-drop (needed (imageGates bs) (imageOutputs bs)) ws)
 
 pub opened : (bs ws : List ℕ) → openJudgement bs (length ws) ≡ Fine → Agree (length ws) (openWords bs ws) (imageBook bs)
-unfolding openWords
+unfolding openWords recordChance
 opened bs ws e =
     let accepted = open-fine bs (length ws) e in
     let rest = drop (needed (imageGates bs) (imageOutputs bs)) ws in
@@ -56,6 +57,9 @@ opened bs ws e =
       held = frame-net before after (imageKinds bs) (imageChances bs) same ∙ image-net bs rest;
       converted = record { flips = λ j l. with-sum-flip worked j ∙ work-all-flip before j ∙ flips-at bs rest j (omega arith) };
       chances-fit = λ j l. chances-fit bs (accepted .image) j (omega arith);
+      honest = λ j l e.
+          let inside : j < imageGates bs = omega arith in
+          chance-at bs j inside ∙ never-chance (recordKind (middle bs) j) (recordField (middle bs) j) (sym (kind-at bs j inside) ∙ e);
       same-pattern = with-sum-pattern worked ∙ work-all-pattern before ∙ head-pattern bs rest;
       single = shared-single (imageNet bs) (accepted .shared);
     }

@@ -13,6 +13,7 @@ use Rattle.netlist.specs.Sum.{rawFlipSum}
 use Rattle.netlist.specs.Exact.{exactSum}
 use Rattle.netlist.specs.Average.{totalWeight, exactAverageSum}
 use Rattle.netlist.specs.Seen.{seenCounts}
+use Rattle.bound.specs.Sharp.{errorHalves}
 use Rattle.bound.specs.Statements.{denominator}
 use Rattle.area.specs.Layout.{gates, outputs, reliabilityWord, sumLowWord, sumHighWord, needed}
 use Rattle.area.specs.Sum.{lowBits, highBits}
@@ -40,15 +41,31 @@ AverageWithin units weights b =
     (2 * (units * totalWeight (b .net) weights * denominator chanceScale (b .net)))
     (2 * (unitsInOne * exactAverageSum chanceScale (b .net) weights))
 
+-- the same with the sharper error of document 02, card 6, by the book's kinds; for an average one half unit more
+abbrev pub WithinSharp : ℕ → Book → Type 0
+WithinSharp units b =
+    Near
+    (errorHalves (b .net) * denominator chanceScale (b .net))
+    (2 * (units * denominator chanceScale (b .net)))
+    (2 * (unitsInOne * exactSum chanceScale (b .net) (b .pattern)))
+
+abbrev pub AverageSharp : ℕ → List ℕ → Book → Type 0
+AverageSharp units weights b =
+    Near
+    ((errorHalves (b .net) + 1) * totalWeight (b .net) weights * denominator chanceScale (b .net))
+    (2 * (units * totalWeight (b .net) weights * denominator chanceScale (b .net)))
+    (2 * (unitsInOne * exactAverageSum chanceScale (b .net) weights))
+
 -- words 5 and 6 hold the low and the high 32 bits of the book's raw flip sum, its chances converted
 pub record SumHeld (ws : List ℕ) (b : Book) : Type 0 where
   pub low : sumLowWord ws ≡ lowBits (rawFlipSum unitsInOne chanceScale (b .net))
   pub high : sumHighWord ws ≡ highBits (rawFlipSum unitsInOne chanceScale (b .net))
 
--- what holds of an area's words between calls: word 4 is within the bound, the right values, the failures and the reliability
+-- what holds of an area's words between calls: word 4 is within both bounds, the right values, the failures and the reliability
 -- held are those of the book's netlist for the book's pattern, and so is the raw flip sum
 pub record Current (ws : List ℕ) (b : Book) : Type 0 where
   pub within : WithinBound (reliabilityWord ws) b
+  pub sharp : WithinSharp (reliabilityWord ws) b
   pub figures : FiguresHeld chanceScale (b .net) (b .pattern) ws
   pub sum : SumHeld ws b
 
@@ -59,7 +76,7 @@ AnswerKept ws b (toggle-input i) = Unit {0}
 AnswerKept ws b (set-flip g kind field) = Unit {0}
 AnswerKept ws b read-netlist = Unit {0}
 AnswerKept ws b (read-gate g) = Unit {0}
-AnswerKept ws b (take-average weights) = AverageWithin (averageOf ws weights) weights b
+AnswerKept ws b (take-average weights) = AverageWithin (averageOf ws weights) weights b × AverageSharp (averageOf ws weights) weights b
 -- whichever the method, the counts are those of single flips on the book's netlist
 AnswerKept ws b (count-seen method patterns slots) = seenCounts method (netOf ws [] []) patterns ≡ seenCounts Flip (b .net) patterns
 

@@ -25,9 +25,10 @@ use Rattle.netlist.proofs.Failures.{failures-length, failure-input, failure-gat
 use Rattle.bound.proofs.Near.{near-at, near-cancel, near-weaken}
 use Rattle.bound.proofs.Bits.{foldBits, Once}
 use Rattle.bound.proofs.Replace.{charges, Local, replaced}
-use Rattle.bound.proofs.Rounded.{failing, right-share, wrong-share, shares-sum}
-use Rattle.bound.proofs.Local.{outputs-near, gate-near}
-use Rattle.bound.proofs.Charge.{charge-total, live-total, one-each}
+use Rattle.bound.proofs.Rounded.{right-share, wrong-share, shares-sum}
+use Rattle.bound.specs.Sharp.{furtherGates, gateHalves, errorHalves, KindsHonest}
+use Rattle.bound.proofs.Local.{outputs-near, gate-near, gate-sharp}
+use Rattle.bound.proofs.Charge.{three-each, halves-are}
 use Rattle.bound.proofs.Shares.{ifRight, right-at-most, rightGiven, wrongGiven, given-sum}
 use Rattle.bound.proofs.Literal.{errorsFrom, literal}
 
@@ -157,13 +158,21 @@ module _ (u d : ℕ) (posu : 0 < u) (posd : 0 < d) (net : Netlist) (well : WellF
     never : (s : ℕ) → isGate s ≡ false → f s ≡ 0
     never s e = failure-input u d net (well .pins-below) q s (leb-false (net .inputs) s e)
 
-    -- two half units for a gate, one for each pin or output that reads a gate
-    abbrev charge : Gate → ℕ
-    charge g = 2 + failing isGate (g .pins)
-
-    gates-near : AllFrom noGate (Local u (u * d) r w (λ t. wrongGiven u d (rightValues net q)) charge) (net .inputs) (net .gates)
+    -- a gate's failure is its figure by itself
+    figure-is : (j : ℕ) → j < length (net .gates) → (halves : ℕ)
+        → Near
+        (halves * ((u * d) ^ length (gateAt net j .pins) * (u * d)))
+        (2
+        * (u
+        * ((u * d) ^ length (gateAt net j .pins)
+        * (d
+        * gateStep u
+        (foldOver u (map f (gateAt net j .pins)) (difference u (gateAt net j .table) (pinValues (rightValues net q) (gateAt net j .pins))))
+        (toUnits u d (gateAt net j .chance))))))
+        (2 * (u * foldBits r w (gateAt net j .pins) (wrongGiven u d (rightValues net q) (gateAt net j))))
+        → Local u (u * d) r w (λ t. wrongGiven u d (rightValues net q)) (λ g. halves) (net .inputs + j) (gateAt net j)
     unfolding gateFailure
-    gates-near j l =
+    figure-is j l halves n =
         let g = gateAt net j in
         let vs = rightValues net q in
         let fs = failures u d net q in
@@ -173,26 +182,44 @@ module _ (u d : ℕ) (posu : 0 < u) (posd : 0 < d) (net : Netlist) (well : WellF
         let figure : f (net .inputs + j) ≡ gateStep u (foldOver u (map f (g .pins)) (difference u (g .table) (pinValues vs (g .pins)))) p
         = failure-gate u d net (well .pins-below) q j l
         ∙ ap (λ (m : ℕ). gateStep u m p) (start-fold u (g .table) (pinValues vs (g .pins)) (pinFailures fs (g .pins)) same) in
-        near-at
-        refl
-        (ap (λ (z : ℕ). 2 * (u * ((u * d) ^ length (g .pins) * (d * z)))) (sym figure))
-        refl
-        (gate-near u d posu posd fs f-most isGate never vs g (well .chances j l))
+        near-at refl (ap (λ (z : ℕ). 2 * (u * ((u * d) ^ length (g .pins) * (d * z)))) (sym figure)) refl n
+
+    -- any charge that is at least what each gate costs by itself, and the outputs that read gates, less one
+    charged : (charge : Gate → ℕ)
+        → ((j : ℕ) → j < length (net .gates) → Local u (u * d) r w (λ t. wrongGiven u d (rightValues net q)) charge (net .inputs + j) (gateAt net j))
+        → Near
+        ((charges (net .outputs) charge (net .inputs) (net .gates) + furtherGates (net .inputs) (net .outputs)) * d ^ length (net .gates))
+        (2 * (reliability u d net q * d ^ length (net .gates)))
+        (2 * (u * exactSum d net q))
+    unfolding reliability
+    charged charge gates =
+        charged-bound charge (furtherGates (net .inputs) (net .outputs)) gates
+        (outputs-near u d posu posd (failures u d net q) f-most isGate never (net .outputs))
 
     -- three half units for each live gate
     pub bound : Near
         (3 * liveGates net * d ^ length (net .gates))
         (2 * (reliability u d net q * d ^ length (net .gates)))
         (2 * (u * exactSum d net q))
-    unfolding reliability liveGates liveReads SingleReaders readers
     bound =
-        let total : charges (net .outputs) charge (net .inputs) (net .gates) + failing isGate (net .outputs) ≤ 3 * liveGates net
-        = omega (
-          arith,
-          charge-total isGate (net .outputs) (net .inputs) (net .gates),
-          live-total (net .outputs) (net .inputs) (net .gates) (well .pins-below),
-          one-each (net .outputs) (net .inputs) (net .gates) (well .pins-below) (well .outputs-below) single,
-        ) in
+        let charge : Gate → ℕ = λ g. 2 + furtherGates (net .inputs) (g .pins) in
         near-weaken
-        (mul-le-mul-right (d ^ length (net .gates)) total)
-        (charged-bound charge (failing isGate (net .outputs)) gates-near (outputs-near u d posu posd (failures u d net q) f-most isGate never (net .outputs)))
+        (mul-le-mul-right (d ^ length (net .gates)) (three-each net well single charge (λ g. omega arith)))
+        (charged charge (λ j l.
+        figure-is j l (charge (gateAt net j))
+        (gate-near u d posu posd (failures u d net q) f-most isGate never (rightValues net q) (gateAt net j) (well .chances j l))))
+
+    -- the sharper one
+    pub sharp : KindsHonest net
+        → Near
+        (errorHalves net * d ^ length (net .gates))
+        (2 * (reliability u d net q * d ^ length (net .gates)))
+        (2 * (u * exactSum d net q))
+    sharp honest =
+        near-at
+        (ap (λ (k : ℕ). k * d ^ length (net .gates)) (sym (halves-are net well)))
+        refl
+        refl
+        (charged (gateHalves (net .inputs)) (λ j l.
+        figure-is j l (gateHalves (net .inputs) (gateAt net j))
+        (gate-sharp u d posu posd (failures u d net q) f-most isGate never (rightValues net q) (gateAt net j) (well .chances j l) (honest j l))))

@@ -4,18 +4,20 @@ use mathlib.Core.Bool.{Bool, true, false, cond}
 use mathlib.Core.List.{List, [], _∷_, _++_}
 use mathlib.Core.Path.{_≡_, refl, sym, ap, ap₂, subst, fun-ext, _∙_}
 use mathlib.Core.Logic.{by-cases, ⊎-elim}
-use native.Mathlib.Nat.{le-refl, eq-or-lt-of-le}
+use native.Mathlib.Nat.{le-refl, eq-or-lt-of-le, add-zero}
 use native.Mathlib.Decide.{decLe}
 use native.Mathlib.Omega.{arith}
-use lib.ListN.{length}
+use lib.ListN.{length, getD}
 use lib.Dec.{eqb, leb}
 use borrow.Author.Tests.{le-leb, lt-leb, eq-eqb, ne-eqb}
 use Rattle.figure.specs.Figure.{bitOf}
-use Rattle.lists.specs.Lists.{count, Below}
+use Rattle.lists.specs.Lists.{count, Below, sumBelow}
+use Rattle.lists.proofs.Sums.{sum-first, sum-same}
 use Rattle.lists.proofs.Every.{below-tail, AllFrom, all-head, all-tail}
-use Rattle.netlist.specs.Netlist.{Gate, noGate}
-use Rattle.netlist.specs.WellFormed.{pinsBelow}
-use Rattle.netlist.specs.Live.{isLive, withGate, liveReadsFrom, liveAmong}
+use Rattle.netlist.specs.Netlist.{Gate, Netlist, noGate}
+use Rattle.netlist.specs.WellFormed.{pinsBelow, WellFormed}
+use Rattle.netlist.specs.Live.{isLive, withGate, liveReadsFrom, liveReads, readers, liveAmong, liveGates, SingleReaders}
+use Rattle.bound.specs.Sharp.{howMany, furtherGates, gateHalves, errorHalves}
 use Rattle.netlist.proofs.Live.{ifLive, reads-with, count-later, among-step}
 use Rattle.bound.proofs.Rounded.{failing}
 use Rattle.bound.proofs.Replace.{charges}
@@ -156,3 +158,60 @@ one-each outputs s gs below outs single =
 
     at : (t j : ℕ) → s + j ≡ t → j < length gs → count t (liveReadsFrom outputs s gs) ≤ 1
     at t j e l = subst (λ (i : ℕ). count i (liveReadsFrom outputs s gs) ≤ 1) e (single j l)
+
+-- ---- of a netlist
+
+if-live : (r k : ℕ) → ifLive r k ≡ cond (isLive r) k 0
+if-live zero k = refl
+if-live (suc r) k = refl
+
+-- the charges of the live gates, added up by their numbers
+charges-sum : (outputs : List ℕ) (charge : Gate → ℕ) (s : ℕ) (gs : List Gate) → AllFrom noGate pinsBelow s gs
+    → charges outputs charge s gs ≡ sumBelow (length gs) (λ j. cond (isLive (count (s + j) (liveReadsFrom outputs s gs))) (charge (getD gs j noGate)) 0)
+charges-sum outputs charge s [] below = refl
+charges-sum outputs charge s (g ∷ gs) below =
+    let later = liveReadsFrom outputs (suc s) gs in
+    let pins = all-head noGate pinsBelow s g gs below in
+    let same : (t : ℕ) → s ≤ t → count t (withGate s (g .pins) later) ≡ count t later = λ t l. count-later t s (g .pins) later pins l in
+    let here : ifLive (count s later) (charge g) ≡ cond (isLive (count (s + 0) (withGate s (g .pins) later))) (charge g) 0
+    = if-live (count s later) (charge g)
+    ∙ ap (λ (c : ℕ). cond (isLive c) (charge g) 0) (sym (ap (λ (t : ℕ). count t (withGate s (g .pins) later)) (add-zero s) ∙ same s (le-refl s))) in
+    let others =
+    charges-sum outputs charge (suc s) gs (all-tail noGate pinsBelow s g gs below)
+    ∙ sum-same _ _ (length gs) (λ j l.
+    let at : s + suc j ≡ suc s + j = omega arith in
+    ap (λ (c : ℕ). cond (isLive c) (charge (getD gs j noGate)) 0)
+    (sym (ap (λ (t : ℕ). count t (withGate s (g .pins) later)) at ∙ same (suc s + j) (omega arith)))) in
+    ap₂ _+_ here others
+    ∙ sym (sum-first (λ j. cond (isLive (count (s + j) (withGate s (g .pins) later))) (charge (getD (g ∷ gs) j noGate)) 0) (length gs))
+
+charges-most : (outputs : List ℕ) (less more : Gate → ℕ) → ((g : Gate) → less g ≤ more g) → (s : ℕ) (gs : List Gate)
+    → charges outputs less s gs ≤ charges outputs more s gs
+charges-most outputs less more h s [] = omega arith
+charges-most outputs less more h s (g ∷ gs) =
+    omega (arith, charges-most outputs less more h (suc s) gs, most (count s (liveReadsFrom outputs (suc s) gs)) (h g))
+  where
+    most : (c : ℕ) {a b : ℕ} → a ≤ b → ifLive c a ≤ ifLive c b
+    most zero l = omega arith
+    most (suc c) l = l
+
+module _ {d : ℕ} (net : Netlist) (well : WellFormed d net) where
+  pub halves-are : errorHalves net
+      ≡ charges (net .outputs) (gateHalves (net .inputs)) (net .inputs) (net .gates) + furtherGates (net .inputs) (net .outputs)
+  unfolding errorHalves readers liveReads
+  halves-are =
+      ap (λ (k : ℕ). k + furtherGates (net .inputs) (net .outputs))
+      (sym (charges-sum (net .outputs) (gateHalves (net .inputs)) (net .inputs) (net .gates) (well .pins-below)))
+
+  -- where a gate costs at most two and one for each pin that reads a gate, it is three for each live gate at most
+  pub three-each : SingleReaders net → (charge : Gate → ℕ) → ((g : Gate) → charge g ≤ 2 + howMany (leb (net .inputs)) (g .pins))
+      → charges (net .outputs) charge (net .inputs) (net .gates) + furtherGates (net .inputs) (net .outputs) ≤ 3 * liveGates net
+  unfolding liveGates liveReads SingleReaders readers
+  three-each single charge h =
+      omega (
+        arith,
+        charges-most (net .outputs) charge (λ g. 2 + howMany (leb (net .inputs)) (g .pins)) h (net .inputs) (net .gates),
+        charge-total (leb (net .inputs)) (net .outputs) (net .inputs) (net .gates),
+        live-total (net .outputs) (net .inputs) (net .gates) (well .pins-below),
+        one-each (net .outputs) (net .inputs) (net .gates) (well .pins-below) (well .outputs-below) single,
+      )

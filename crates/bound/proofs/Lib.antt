@@ -10,3 +10,4 @@ pub mod Literal
 pub mod Bound
 pub mod Average
 pub mod Examples
+pub mod Sheets

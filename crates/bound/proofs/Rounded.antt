@@ -4,15 +4,16 @@ use Prim.Native.Nat.{ℕ, suc, _+_, _-_, _*_, _^_, _≤_, _<_}
 use mathlib.Core.Bool.{Bool, true, false}
 use mathlib.Core.List.{List, [], _∷_, map}
 use mathlib.Core.Path.{_≡_, refl, sym, ap, ap₂, _∙_}
-use native.Mathlib.Nat.{pow-zero, pow-succ', mul-zero, add-zero, sub-zero, sub-add-cancel}
+use native.Mathlib.Nat.{pow-zero, pow-succ', mul-comm, mul-left-comm, mul-zero, zero-add, add-zero, sub-zero, sub-add-cancel}
 use native.Mathlib.Omega.{arith}
 use lib.ListN.{length}
 use Rattle.rounding.specs.Rounding.{blend, toUnits, Near}
-use Rattle.rounding.proofs.Laws.{near, blend-none}
+use Rattle.rounding.proofs.Laws.{near, blend-none, blend-whole}
 use Rattle.figure.specs.Figure.{bitOf}
 use Rattle.figure.proofs.Fold.{foldOver}
 use Rattle.bound.proofs.Near.{near-at, near-trans, near-add, near-scale, replace}
-use Rattle.bound.proofs.Bits.{foldBits}
+use Rattle.bound.specs.Sharp.{howMany}
+use Rattle.bound.proofs.Bits.{foldBits, bits-linear}
 
 pub blend-near : (u r w f : ℕ) → 0 < u → Near u (2 * (blend u r w f * u)) (2 * (r * (u - f) + w * f))
 unfolding blend
@@ -36,8 +37,7 @@ mean-near u d k x r w a b m f g sum step nr nw =
 
 -- how many of these sources may fail
 abbrev pub failing : (ℕ → Bool) → List ℕ → ℕ
-failing mayFail [] = 0
-failing mayFail (p ∷ ps) = bitOf (mayFail p) + failing mayFail ps
+failing mayFail ps = howMany mayFail ps
 
 -- the shares of a source's bit, right and wrong, of u * d together: f s is its failure
 abbrev pub right-share : ℕ → ℕ → (ℕ → ℕ) → ℕ → ℕ
@@ -109,6 +109,68 @@ module _ (u d : ℕ) (posu : 0 < u) (f : ℕ → ℕ) (f-most : (s : ℕ) → f 
       (λ bs. right-share u d f p * X (false ∷ bs) + wrong-share u d f p * X (true ∷ bs))
       (pin-near p k x W X h (mayFail p) refl) in
       near-at (ap₂ _*_ (omega arith) scale) (ap (λ (z : ℕ). 2 * (foldOver u (map f ps) W′ * z)) scale) refl ih
+
+  -- from whole numbers of u the first pin that may fail is folded exactly, so it costs nothing
+  pub whole-near : (ps : List ℕ) (W X : List Bool → ℕ) → ((bs : List Bool) → W bs ≡ u * X bs)
+      → Near
+      ((failing mayFail ps - 1) * (u * d) ^ length ps)
+      (2 * (foldOver u (map f ps) W * (u * d) ^ length ps))
+      (2 * (u * foldBits (right-share u d f) (wrong-share u d f) ps X))
+  whole-near [] W X e = omega (arith, pow-zero (u * d), ap (λ (z : ℕ). W [] * z) (pow-zero (u * d)), e [])
+  whole-near (p ∷ ps) W X e = go (mayFail p) refl (whole-near ps)
+    where
+      x : ℕ
+      x = (u * d) ^ length ps
+
+      scale : (u * d) ^ suc (length ps) ≡ u * d * x
+      scale = pow-succ' (u * d) (length ps)
+
+      W′ : List Bool → ℕ
+      W′ bs = blend u (W (false ∷ bs)) (W (true ∷ bs)) (f p)
+
+      X′ : List Bool → ℕ
+      X′ bs = right-share u d f p * X (false ∷ bs) + wrong-share u d f p * X (true ∷ bs)
+
+      first : (bs : List Bool) → W′ bs ≡ X (false ∷ bs) * (u - f p) + X (true ∷ bs) * f p
+      first bs =
+          ap₂ (λ (r w : ℕ). blend u r w (f p)) (e (false ∷ bs) ∙ mul-comm u (X (false ∷ bs))) (e (true ∷ bs) ∙ mul-comm u (X (true ∷ bs)))
+          ∙ blend-whole u (X (false ∷ bs)) (X (true ∷ bs)) (f p) posu
+
+      go : (c : Bool) → mayFail p ≡ c
+          → ((F Y : List Bool → ℕ)
+          → ((bs : List Bool) → F bs ≡ u * Y bs)
+          → Near
+          ((failing mayFail ps - 1) * x)
+          (2 * (foldOver u (map f ps) F * x))
+          (2 * (u * foldBits (right-share u d f) (wrong-share u d f) ps Y)))
+          → Near
+          ((bitOf c + failing mayFail ps - 1) * (u * d) ^ suc (length ps))
+          (2 * (foldOver u (map f ps) W′ * (u * d) ^ suc (length ps)))
+          (2 * (u * foldBits (right-share u d f) (wrong-share u d f) ps X′))
+      go true c later =
+          near-at
+          (ap₂ _*_ (omega arith) (omega (arith, scale)))
+          (ap (λ (z : ℕ). 2 * (foldOver u (map f ps) W′ * z)) (omega (arith, scale)))
+          refl
+          (fold-near ps 0 (u * d) W′ X′ (λ bs. omega (arith, ap (λ (z : ℕ). z * (u * d)) (first bs))))
+      go false c later =
+          let none : f p ≡ 0 = never p c in
+          let kept : (bs : List Bool) → W′ bs ≡ u * X (false ∷ bs)
+          = λ bs. ap (blend u (W (false ∷ bs)) (W (true ∷ bs))) none ∙ blend-none u (W (false ∷ bs)) (W (true ∷ bs)) posu ∙ e (false ∷ bs) in
+          let right : right-share u d f p ≡ u * d = ap (λ (z : ℕ). d * (u - z)) none ∙ ap (λ (z : ℕ). d * z) (sub-zero u) ∙ mul-comm d u in
+          let wrong : wrong-share u d f p ≡ 0 = ap (λ (z : ℕ). d * z) none ∙ mul-zero d in
+          let a = foldBits (right-share u d f) (wrong-share u d f) ps (λ bs. X (false ∷ bs)) in
+          let b = foldBits (right-share u d f) (wrong-share u d f) ps (λ bs. X (true ∷ bs)) in
+          let parts : foldBits (right-share u d f) (wrong-share u d f) ps X′ ≡ u * d * a
+          = bits-linear (right-share u d f) (wrong-share u d f) ps (right-share u d f p) (wrong-share u d f p) (λ bs. X (false ∷ bs)) (λ bs. X (true ∷ bs))
+          ∙ ap₂ (λ (y z : ℕ). y * a + z * b) right wrong
+          ∙ omega arith in
+          near-at
+          (mul-left-comm (u * d) (failing mayFail ps - 1) x
+          ∙ ap₂ (λ (k z : ℕ). (k - 1) * z) (sym (zero-add (failing mayFail ps))) (sym scale))
+          (omega (arith, ap (λ (z : ℕ). foldOver u (map f ps) W′ * z) scale))
+          (omega (arith, ap (λ (z : ℕ). u * z) parts))
+          (near-scale (u * d) (later W′ (λ bs. X (false ∷ bs)) kept))
 
 -- a gate: m of its pins' fold, p of its flip, F its figure; the primed ones are what is left of u, u, d and x
 pub gate-mean : (u d x k m m′ p p′ c c′ M M′ F : ℕ) → m + m′ ≡ u → p + p′ ≡ u → c + c′ ≡ d → M + M′ ≡ x

@@ -1,1 +1,3 @@
+pub mod Sharp
 pub mod Statements
+pub mod Sheets

@@ -1,7 +1,8 @@
 -- What is promised of every netlist that refusals 5 to 9 leave, of any size, for any number u of units in one and any denominator d of the chances:
 -- document 01, "The list and the book", with every denominator multiplied out and distances in half units. proofs/Bound.antt and proofs/Average.antt prove it.
-use Prim.Native.Nat.{ℕ, _+_, _*_, _^_, _<_}
+use Prim.Native.Nat.{ℕ, _+_, _*_, _^_, _≤_, _<_}
 use mathlib.Core.List.{List}
+use mathlib.Core.Path.{_≡_}
 use lib.ListN.{length}
 use Rattle.rounding.specs.Rounding.{Near}
 use Rattle.netlist.specs.Netlist.{Netlist}
@@ -10,6 +11,7 @@ use Rattle.netlist.specs.Exact.{exactSum}
 use Rattle.netlist.specs.Figures.{reliability}
 use Rattle.netlist.specs.Live.{liveGates, SingleReaders}
 use Rattle.netlist.specs.Average.{totalWeight, exactAverageSum, averageUnits}
+use Rattle.bound.specs.Sharp.{errorHalves, KindsHonest}
 
 -- the denominator of the exact sum: d for each gate
 abbrev pub denominator : ℕ → Netlist → ℕ
@@ -29,3 +31,26 @@ AverageBound =
     ((3 * liveGates net + 1) * totalWeight net weights * denominator d net)
     (2 * (averageUnits u d net weights * totalWeight net weights * denominator d net))
     (2 * (u * exactAverageSum d net weights))
+
+-- document 02, card 6: the sharper error, for a pattern and for the average; it is never more than 1.5 units for each live gate
+abbrev pub SharpBound : Type 0
+SharpBound =
+    (u d : ℕ) → 0 < u → 0 < d → (net : Netlist) → WellFormed d net → SingleReaders net → KindsHonest net → (q : ℕ)
+    → Near (errorHalves net * denominator d net) (2 * (reliability u d net q * denominator d net)) (2 * (u * exactSum d net q))
+
+abbrev pub SharpAverage : Type 0
+SharpAverage =
+    (u d : ℕ) → 0 < u → 0 < d → (net : Netlist) → WellFormed d net → SingleReaders net → KindsHonest net → (weights : List ℕ) → 0 < totalWeight net weights
+    → Near
+    ((errorHalves net + 1) * totalWeight net weights * denominator d net)
+    (2 * (averageUnits u d net weights * totalWeight net weights * denominator d net))
+    (2 * (u * exactAverageSum d net weights))
+
+-- where it is 0 every figure is exact
+abbrev pub ZeroExact : Type 0
+ZeroExact =
+    (u d : ℕ) → 0 < u → 0 < d → (net : Netlist) → WellFormed d net → SingleReaders net → KindsHonest net → errorHalves net ≡ 0 → (q : ℕ)
+    → reliability u d net q * denominator d net ≡ u * exactSum d net q
+
+abbrev pub NeverWider : Type 0
+NeverWider = (d : ℕ) (net : Netlist) → WellFormed d net → SingleReaders net → errorHalves net ≤ 3 * liveGates net

@@ -191,3 +191,8 @@ strike-exact field a c b d e f =
         let v : n * c * (m * d) * s ≡ n * m * s * (c * d) = simp (mul-assoc, mul-comm, mul-left-comm) in
         let w : k * (p * q) * (c * d) ≡ k * (c * d) * (p * q) = simp (mul-assoc, mul-comm, mul-left-comm) in
         u ∙ ap (λ (z : ℕ). z * (b * q) * s) (sym e) ∙ ap (λ (z : ℕ). n * c * z * s) (sym f) ∙ v ∙ ap (λ (z : ℕ). z * (c * d)) g ∙ w)
+
+-- kind 0 has no chance of flipping
+pub never-chance : (kind : ℕ) (field : List ℕ) → kind ≡ 0 → flipChance kind field ≡ 0
+unfolding flipChance flipOf chanceOf
+never-chance kind field e = ap (λ (k : ℕ). chanceOf (flipOf k field)) e

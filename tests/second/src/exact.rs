@@ -156,6 +156,8 @@ pub fn nearest_units(chance: Chance) -> u64 {
 /// The exact sums of one netlist with its chances. All of them are over D^G, with D = 2^1074.
 pub struct ExactSums {
     live: u64,
+    /// The sharper error, in half units.
+    halves: u64,
     denominator: Big,
     /// Entry f is the chance of the flip pattern f (bit j: gate j flips), times D^G.
     pattern_chances: Vec<Big>,
@@ -175,6 +177,7 @@ impl ExactSums {
         }
         ExactSums {
             live: u64::from(crate::model::live_count(netlist)),
+            halves: error_halves(netlist),
             denominator: Big::from_u64(1).shifted(CHANCE_BITS * gates),
             pattern_chances,
         }
@@ -201,14 +204,14 @@ impl ExactSums {
         sum == self.denominator
     }
 
-    /// Whether `units` lies within 1.5 × L of U × the exact sum.
+    /// Whether `units` lies within the sharper error, and so within 1.5 × L, of U × the exact sum.
     pub fn reliability_is_near(&self, units: u32, exact_sum: &Big) -> bool {
         let have = self.denominator.times_u64(u64::from(units));
         let twice_distance = exact_sum.times_u64(U).distance(&have).times_u64(2);
-        twice_distance.at_most(&self.denominator.times_u64(3 * self.live))
+        self.halves <= 3 * self.live && twice_distance.at_most(&self.denominator.times_u64(self.halves))
     }
 
-    /// Whether `units` lies within 1.5 × L + 0.5 of U × the exact average.
+    /// Whether `units` lies within the sharper error and half a unit of U × the exact average.
     pub fn average_is_near(&self, units: u32, netlist: &Netlist, weights: &[u32]) -> bool {
         let mut weighted = Big::zero();
         let mut weight_sum = 0u64;
@@ -220,7 +223,7 @@ impl ExactSums {
         let scale = self.denominator.times_u64(weight_sum);
         let have = scale.times_u64(u64::from(units));
         let twice_distance = weighted.times_u64(U).distance(&have).times_u64(2);
-        twice_distance.at_most(&scale.times_u64(3 * self.live + 1))
+        twice_distance.at_most(&scale.times_u64(self.halves + 1))
     }
 
     /// U × the exact sum in thousandths of a unit, rounded down; only for messages and statistics.
@@ -228,6 +231,21 @@ impl ExactSums {
         let bits = CHANCE_BITS * netlist.gates.len() as u32;
         exact_sum.times_u64(1000 * U).shifted_down(bits).to_u64().expect("a sum is at most 1")
     }
+}
+
+/// How many half units the figure may be off: 2 for a live gate whose kind is not 0, and 1 for each of
+/// its pins that read gates but the first such pin; 1 for each output that reads a gate but the first.
+pub fn error_halves(netlist: &Netlist) -> u64 {
+    let further = |sources: &[u32]| {
+        let gates = sources.iter().filter(|source| **source >= netlist.inputs).count() as u64;
+        gates.saturating_sub(1)
+    };
+    let live = crate::model::live_gates(netlist);
+    let of_gates = netlist.gates.iter().zip(live).filter(|(_, live)| *live).map(|(gate, _)| {
+        let flips = if gate.kind == 0 { 0 } else { 2 };
+        flips + further(gate.used_pins())
+    });
+    of_gates.sum::<u64>() + further(&netlist.outputs)
 }
 
 /// The outputs' values, bit by bit, when exactly the gates in `flips` flip.
