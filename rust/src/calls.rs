@@ -200,8 +200,8 @@ pub fn counts_by_flip(area: &[u32], patterns: &[u32], counts: &mut [u32]) -> Res
 }
 
 /// The same as [`counts_by_flip`] by masks that go back from the outputs. A gate's mask is 1 where an
-/// output reads it, and where it is read by a pin of a gate with mask 1 whose answer changes when that
-/// pin alone is inverted.
+/// output reads it, and where a gate with mask 1 reads it by a pin whose inversion, all else as it is,
+/// inverts the answer.
 ///
 /// On every netlist that [`open`] lets in the counts are those by flip. In an area that came about in
 /// another way, with shared gates, they may be more or fewer.

@@ -11,12 +11,12 @@ use Rattle.lists.specs.Lists.{sumBelow}
 use Rattle.lists.proofs.Sums.{sum-same, sum-changed, sum-bounded, sum-term}
 use Rattle.rounding.specs.Rounding.{toUnits}
 use Rattle.netlist.specs.Netlist.{gateAt}
-use Rattle.netlist.specs.Live.{readers}
+use Rattle.netlist.specs.Live.{ifLive, readers}
 use Rattle.netlist.specs.Sum.{rawFlipSum}
 use Rattle.area.specs.Layout.{headWords, inputs, gates, flip}
 use Rattle.area.specs.Layout.{sumLowIndex, sumLowWord, sumHighIndex, sumHighWord}
 use Rattle.area.specs.Net.{netOf}
-use Rattle.area.specs.Sum.{flipIf, liveFlip, flipSum, lowBits, highBits, storedSum}
+use Rattle.area.specs.Sum.{liveFlip, flipSum, lowBits, highBits, storedSum}
 use Rattle.area.proofs.Net.{SameNet, same-net, same-readers, gate-at, gate-count}
 
 -- the netlist and the flips decide it
@@ -25,14 +25,14 @@ unfolding flipSum
 same-sum vs ws same flips =
     ap (λ (k : ℕ). sumBelow k (liveFlip vs)) (same .same-gates)
     ∙ sum-same (liveFlip vs) (liveFlip ws) (gates ws) (λ j l.
-    ap₂ flipIf (ap₂ readers (same-net vs ws [] [] same) (ap (λ (n : ℕ). n + j) (same .same-inputs))) (flips j l))
+    ap₂ ifLive (ap₂ readers (same-net vs ws [] [] same) (ap (λ (n : ℕ). n + j) (same .same-inputs))) (flips j l))
 
 -- it is at most so many for each gate, and at least what one gate adds
 pub few-units : (ws : List ℕ) (b : ℕ) → ((j : ℕ) → j < gates ws → flip ws j ≤ b) → flipSum ws ≤ gates ws * b
 unfolding flipSum
 few-units ws b fits = sum-bounded (liveFlip ws) b (gates ws) (λ j l. le-trans (at-most (readers (netOf ws [] []) (inputs ws + j)) (flip ws j)) (fits j l))
   where
-    at-most : (r units : ℕ) → flipIf r units ≤ units
+    at-most : (r units : ℕ) → ifLive r units ≤ units
     at-most zero units = omega arith
     at-most (suc r) units = omega arith
 
@@ -42,15 +42,15 @@ sum-has ws j l = sum-term (liveFlip ws) (gates ws) j l
 
 -- one flip changed: what its gate added goes, and what it adds now comes
 pub changed-sum : (vs ws : List ℕ) (g : ℕ) → SameNet vs ws → g < gates ws → ((j : ℕ) → j < gates ws → j ≢ g → flip vs j ≡ flip ws j)
-    → flipSum vs + liveFlip ws g ≡ flipSum ws + flipIf (readers (netOf ws [] []) (inputs ws + g)) (flip vs g)
+    → flipSum vs + liveFlip ws g ≡ flipSum ws + ifLive (readers (netOf ws [] []) (inputs ws + g)) (flip vs g)
 unfolding flipSum
 changed-sum vs ws g same l flips =
     let read : (j : ℕ) → readers (netOf vs [] []) (inputs vs + j) ≡ readers (netOf ws [] []) (inputs ws + j)
     = λ j. ap₂ readers (same-net vs ws [] [] same) (ap (λ (n : ℕ). n + j) (same .same-inputs)) in
-    let changed = sum-changed (liveFlip vs) (liveFlip ws) g (gates ws) l (λ j m n. ap₂ flipIf (read j) (flips j m n)) in
+    let changed = sum-changed (liveFlip vs) (liveFlip ws) g (gates ws) l (λ j m n. ap₂ ifLive (read j) (flips j m n)) in
     ap (λ (k : ℕ). sumBelow k (liveFlip vs) + liveFlip ws g) (same .same-gates)
     ∙ changed
-    ∙ ap (λ (r : ℕ). sumBelow (gates ws) (liveFlip ws) + flipIf r (flip vs g)) (read g)
+    ∙ ap (λ (r : ℕ). sumBelow (gates ws) (liveFlip ws) + ifLive r (flip vs g)) (read g)
 
 -- where each flip word is a chance in units, it is the netlist's
 pub sum-held : (u d : ℕ) (ws kinds chances : List ℕ) → ((j : ℕ) → j < gates ws → flip ws j ≡ toUnits u d (getD chances j 0))
@@ -58,9 +58,9 @@ pub sum-held : (u d : ℕ) (ws kinds chances : List ℕ) → ((j : ℕ) → j < 
 unfolding flipSum rawFlipSum
 sum-held u d ws kinds chances flips =
     let net = netOf ws kinds chances in
-    sum-same (liveFlip ws) (λ j. flipIf (readers net (inputs ws + j)) (toUnits u d (gateAt net j .chance))) (gates ws) (λ j l.
-    ap₂ flipIf (same-readers ws [] [] kinds chances (inputs ws + j)) (flips j l ∙ sym (ap (λ g. toUnits u d (g .chance)) (gate-at ws kinds chances j l))))
-    ∙ sym (ap (λ (k : ℕ). sumBelow k (λ j. flipIf (readers net (inputs ws + j)) (toUnits u d (gateAt net j .chance)))) (gate-count ws kinds chances))
+    sum-same (liveFlip ws) (λ j. ifLive (readers net (inputs ws + j)) (toUnits u d (gateAt net j .chance))) (gates ws) (λ j l.
+    ap₂ ifLive (same-readers ws [] [] kinds chances (inputs ws + j)) (flips j l ∙ sym (ap (λ g. toUnits u d (g .chance)) (gate-at ws kinds chances j l))))
+    ∙ sym (ap (λ (k : ℕ). sumBelow k (λ j. ifLive (readers net (inputs ws + j)) (toUnits u d (gateAt net j .chance)))) (gate-count ws kinds chances))
 
 -- ---- a sum stored
 

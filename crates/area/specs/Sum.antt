@@ -1,19 +1,15 @@
 -- The raw flip sum of document 02, card 5, as words hold it: the flip words of the live gates, added up; which are live the words' own pins and outputs say.
 use Prim.Native.Nat.{ℕ, _+_, _/_, _%_}
-use mathlib.Core.Bool.{cond}
 use mathlib.Core.List.{List, []}
 use lib.ListN.{set}
 use Rattle.lists.specs.Lists.{sumBelow}
-use Rattle.netlist.specs.Live.{isLive, readers}
+use Rattle.netlist.specs.Live.{ifLive, readers}
 use Rattle.area.specs.Layout.{inputs, gates, flip, sumLowIndex, sumHighIndex}
 use Rattle.area.specs.Net.{netOf}
 
--- what gate j adds where it has so many live readers: its flip, or nothing
-abbrev pub flipIf : ℕ → ℕ → ℕ
-flipIf readers units = cond (isLive readers) units 0
-
+-- what gate j adds: its flip, if it is live
 abbrev pub liveFlip : List ℕ → ℕ → ℕ
-liveFlip ws j = flipIf (readers (netOf ws [] []) (inputs ws + j)) (flip ws j)
+liveFlip ws j = ifLive (readers (netOf ws [] []) (inputs ws + j)) (flip ws j)
 
 unfoldable pub flipSum : List ℕ → ℕ
 flipSum ws = sumBelow (gates ws) (liveFlip ws)

@@ -4,7 +4,7 @@ ghost use Prim.Native.Nat.{_+_, _<_, _≤_};
 ghost use lib.ListN.{length, getD, set};
 ghost use lib.Seq.{sets};
 ghost use Rattle.area.specs.Layout as layout;
-ghost use Rattle.area.specs.Sum.{storedSum};
+ghost use Rattle.area.specs.Sum.{lowBits, highBits, storedSum};
 
 // Limits.
 pub const MOST_PINS: usize = 4;
@@ -192,13 +192,25 @@ pub fn needed(gates: usize, outputs: usize) -> usize
     HEAD_WORDS + GATE_WORDS * gates + outputs
 }
 
-// A sum in its two words.
+// The two words of a sum.
+pub fn sum_low(sum: u64) -> u32
+    ensures { λ r. ⌜ r ≡ lowBits sum ⌝ }
+{
+    (sum % 4_294_967_296) as u32
+}
+
+pub fn sum_high(sum: u64) -> u32
+    ensures { λ r. ⌜ r ≡ highBits sum ⌝ }
+{
+    (sum / 4_294_967_296) as u32
+}
+
 pub fn store_sum(area: &mut [u32], sum: u64)
     requires { ⌜ layout.headWords ≤ length (now area) ⌝ }
     ensures { λ _. ⌜ now (area .exit) ≡ storedSum (now (area .entry)) sum ⌝ }
 {
-    area[SUM_LOW] = (sum % 4_294_967_296) as u32;
-    area[SUM_HIGH] = (sum / 4_294_967_296) as u32;
+    area[SUM_LOW] = sum_low(sum);
+    area[SUM_HIGH] = sum_high(sum);
 }
 
 // Stores values from `base` on.

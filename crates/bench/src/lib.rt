@@ -193,7 +193,7 @@ fn judge_counts(area: &[u32], patterns: &[u32], slots: usize) -> Judgement
     }
 }
 
-// Toggles one input: works out again the gates that depend on it, and the reliability.
+// Inverts one input; the gates behind it and the reliability follow.
 pub fn toggle_input(area: &mut [u32], input: u32) -> Toggled
     ensures { λ r. ⌜ r ≡ toggled (judgement (now (area .entry)) (toggle-input input)) ⌝ }
     ensures { λ _. ⌜ now (area .exit) ≡ left (now (area .entry)) (toggle-input input) ⌝ }
@@ -266,8 +266,8 @@ fn set_counted(
     }
 }
 
-// Sets one gate's flip: works out again that gate, those that depend on it, the reliability and the raw flip sum. Live readers are counted
-// once, for the judgement and for the sum.
+// Sets one gate's flip; this gate, those behind it, the reliability and the raw flip sum follow. Live readers are counted once, for the
+// judgement and for the sum.
 pub fn set_flip(area: &mut [u32], gate: u32, kind: u8, field: [u8; 8]) -> FlipSet
     ensures { λ r. ⌜ r ≡ flipSet (judgement (now (area .entry)) (set-flip gate kind field)) ⌝ }
     ensures { λ _. ⌜ now (area .exit) ≡ left (now (area .entry)) (set-flip gate kind field) ⌝ }

@@ -19,11 +19,11 @@ use Rattle.placing.specs.Placing.{Earliest}
 use Rattle.resolve.specs.Names.{sourcesIn, sourceNumbers}
 use Rattle.blif.specs.Reading.{textLines, inputCount, gateCount, outputCount, orderIn, modelNet, modelFault, modelLength, blifRefusal, blifLeft}
 
--- a table equals its cover on every row
+-- the table made of a cover answers as the cover does
 abbrev pub TableIsCover : Type 0
 TableIsCover = (cover : List Line) (vs : List Bool) → answer (coverTable (length vs) cover) vs ≡ coverValue cover vs
 
--- values of names: inputs have the pattern's bits, and each gate has its cover's value on the values of its sources
+-- values of names: inputs have the pattern's bits, and a gate what its cover makes of its sources' values
 pub record Consistent (ls : List Line) (q : ℕ) (v : List ℕ → Bool) : Type 0 where
   pub inputs : (i : ℕ) → i < inputCount ls → v (getD (listed inputsKey ls) i noWord .bytes) ≡ isOdd (q / 2 ^ i)
   pub gates : (j : ℕ) → j < gateCount ls

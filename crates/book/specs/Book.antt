@@ -1,5 +1,5 @@
--- The book of document 01, "The list and the book": what is current and exact after a list of calls. It is fed the area's length and the calls' arguments,
--- and neither a word of the area nor an answer.
+-- The book of document 01, "The list and the book": what is current and exact after a list of calls. It sees how long the area is and what the calls are
+-- given, but no word of the area and no answer.
 use Prim.Native.Nat.{ℕ, suc}
 use mathlib.Core.List.{List}
 use lib.ListN.{length, set}

@@ -25,7 +25,7 @@ use Rattle.calls.specs.Judgements.{openJudgement, judgement}
 use Rattle.calls.specs.Calls.{openWords, averageOf, left}
 use Rattle.book.specs.Book.{Book, imageBook, bookJudgement, bookStep}
 
--- so many units differ from U × the exact sum for the book's pattern by at most 1.5 × L: twice that, times the exact sum's denominator
+-- these units lie no more than 1.5 for each live gate from U × the exact sum at the book's pattern: in half units, times the exact sum's denominator
 abbrev pub WithinBound : ℕ → Book → Type 0
 WithinBound units b =
     Near
@@ -33,7 +33,7 @@ WithinBound units b =
     (2 * (units * denominator chanceScale (b .net)))
     (2 * (unitsInOne * exactSum chanceScale (b .net) (b .pattern)))
 
--- and from U × the exact average by at most 1.5 × L + 0.5: twice that, times the sum of weights and the exact sum's denominator
+-- an average may lie half a unit further from U × the exact one: times the sum of weights too
 abbrev pub AverageWithin : ℕ → List ℕ → Book → Type 0
 AverageWithin units weights b =
     Near

@@ -16,9 +16,9 @@ use Rattle.lists.proofs.Sums.{sum-first, sum-same}
 use Rattle.lists.proofs.Every.{below-tail, AllFrom, all-head, all-tail}
 use Rattle.netlist.specs.Netlist.{Gate, Netlist, noGate}
 use Rattle.netlist.specs.WellFormed.{pinsBelow, WellFormed}
-use Rattle.netlist.specs.Live.{isLive, withGate, liveReadsFrom, liveReads, readers, liveAmong, liveGates, SingleReaders}
+use Rattle.netlist.specs.Live.{isLive, ifLive, withGate, liveReadsFrom, liveReads, readers, liveAmong, liveGates, SingleReaders}
 use Rattle.bound.specs.Sharp.{howMany, furtherGates, gateHalves, errorHalves}
-use Rattle.netlist.proofs.Live.{ifLive, reads-with, count-later, among-step}
+use Rattle.netlist.proofs.Live.{reads-with, count-later, among-step}
 use Rattle.bound.proofs.Rounded.{failing}
 use Rattle.bound.proofs.Replace.{charges}
 
@@ -161,29 +161,24 @@ one-each outputs s gs below outs single =
 
 -- ---- of a netlist
 
-if-live : (r k : ℕ) → ifLive r k ≡ cond (isLive r) k 0
-if-live zero k = refl
-if-live (suc r) k = refl
-
 -- the charges of the live gates, added up by their numbers
 charges-sum : (outputs : List ℕ) (charge : Gate → ℕ) (s : ℕ) (gs : List Gate) → AllFrom noGate pinsBelow s gs
-    → charges outputs charge s gs ≡ sumBelow (length gs) (λ j. cond (isLive (count (s + j) (liveReadsFrom outputs s gs))) (charge (getD gs j noGate)) 0)
+    → charges outputs charge s gs ≡ sumBelow (length gs) (λ j. ifLive (count (s + j) (liveReadsFrom outputs s gs)) (charge (getD gs j noGate)))
 charges-sum outputs charge s [] below = refl
 charges-sum outputs charge s (g ∷ gs) below =
     let later = liveReadsFrom outputs (suc s) gs in
     let pins = all-head noGate pinsBelow s g gs below in
     let same : (t : ℕ) → s ≤ t → count t (withGate s (g .pins) later) ≡ count t later = λ t l. count-later t s (g .pins) later pins l in
-    let here : ifLive (count s later) (charge g) ≡ cond (isLive (count (s + 0) (withGate s (g .pins) later))) (charge g) 0
-    = if-live (count s later) (charge g)
-    ∙ ap (λ (c : ℕ). cond (isLive c) (charge g) 0) (sym (ap (λ (t : ℕ). count t (withGate s (g .pins) later)) (add-zero s) ∙ same s (le-refl s))) in
+    let here : ifLive (count s later) (charge g) ≡ ifLive (count (s + 0) (withGate s (g .pins) later)) (charge g)
+    = ap (λ (c : ℕ). ifLive c (charge g)) (sym (ap (λ (t : ℕ). count t (withGate s (g .pins) later)) (add-zero s) ∙ same s (le-refl s))) in
     let others =
     charges-sum outputs charge (suc s) gs (all-tail noGate pinsBelow s g gs below)
     ∙ sum-same _ _ (length gs) (λ j l.
     let at : s + suc j ≡ suc s + j = omega arith in
-    ap (λ (c : ℕ). cond (isLive c) (charge (getD gs j noGate)) 0)
+    ap (λ (c : ℕ). ifLive c (charge (getD gs j noGate)))
     (sym (ap (λ (t : ℕ). count t (withGate s (g .pins) later)) at ∙ same (suc s + j) (omega arith)))) in
     ap₂ _+_ here others
-    ∙ sym (sum-first (λ j. cond (isLive (count (s + j) (withGate s (g .pins) later))) (charge (getD (g ∷ gs) j noGate)) 0) (length gs))
+    ∙ sym (sum-first (λ j. ifLive (count (s + j) (withGate s (g .pins) later)) (charge (getD (g ∷ gs) j noGate))) (length gs))
 
 charges-most : (outputs : List ℕ) (less more : Gate → ℕ) → ((g : Gate) → less g ≤ more g) → (s : ℕ) (gs : List Gate)
     → charges outputs less s gs ≤ charges outputs more s gs

@@ -17,8 +17,8 @@ use Rattle.lists.proofs.Counts.{count-append}
 use Rattle.lists.proofs.Every.{AllFrom, all-head, all-tail}
 use Rattle.netlist.specs.Netlist.{Gate, noGate}
 use Rattle.netlist.specs.WellFormed.{pinsBelow}
-use Rattle.netlist.specs.Live.{isLive, liveReadsFrom}
-use Rattle.netlist.proofs.Live.{ifLive, count-outputs}
+use Rattle.netlist.specs.Live.{isLive, ifLive, liveReadsFrom}
+use Rattle.netlist.proofs.Live.{count-outputs}
 use Rattle.bound.proofs.Near.{near-at, near-trans, near-scale, near-cancel, replace-mean}
 use Rattle.bound.proofs.Mix.{upd, mix, mix-same, mix-linear, mix-add, mix-const, mix-at-most, mix-sure}
 use Rattle.bound.proofs.Bits.{ReadsOnly, unread, map-agree, foldBits, bits-add, bits-const, Once, fold-law}

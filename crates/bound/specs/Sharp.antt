@@ -8,7 +8,7 @@ use lib.Dec.{eqb, leb}
 use Rattle.figure.specs.Figure.{bitOf}
 use Rattle.lists.specs.Lists.{sumBelow}
 use Rattle.netlist.specs.Netlist.{Gate, Netlist, gateAt}
-use Rattle.netlist.specs.Live.{isLive, readers}
+use Rattle.netlist.specs.Live.{ifLive, readers}
 
 -- how many of these sources a test passes; gates are the sources from the number of inputs on
 abbrev pub howMany : (ℕ → Bool) → List ℕ → ℕ
@@ -26,7 +26,7 @@ gateHalves n g = cond (eqb (g .kind) 0) 0 2 + furtherGates n (g .pins)
 -- all live gates, and the outputs that read gates, less one
 unfoldable pub errorHalves : Netlist → ℕ
 errorHalves net =
-    sumBelow (length (net .gates)) (λ j. cond (isLive (readers net (net .inputs + j))) (gateHalves (net .inputs) (gateAt net j)) 0)
+    sumBelow (length (net .gates)) (λ j. ifLive (readers net (net .inputs + j)) (gateHalves (net .inputs) (gateAt net j)))
     + furtherGates (net .inputs) (net .outputs)
 
 -- a gate of kind 0 has chance 0

@@ -34,11 +34,11 @@ pub data Call : Type 0 where
 abbrev pub named : ℕ → ℕ → Judgement
 named x count = refuseUnless (ltb x count) 10 x
 
--- 11: a call's flip kind or field is bad by 7
+-- 11: the flip that a call gives would get 7 in an image
 abbrev pub flipJudgement : ℕ → ℕ → List ℕ → Judgement
 flipJudgement g kind field = refuseUnless (flipAccepted kind field) 11 g
 
--- 12: the length of the weights, else the lowest one above 1,048,575, else all zero
+-- 12: not one weight for each pattern, else the lowest that is too large, else none but zeros
 abbrev pub weightJudgement : List ℕ → ℕ → Judgement
 weightJudgement weights = wordJudgement weights largestWeight 12
 
@@ -53,7 +53,7 @@ pub record WeightsFit (n : ℕ) (weights : List ℕ) : Type 0 where
   pub small : (q : ℕ) → q < length weights → getD weights q 0 ≤ largestWeight
   pub some : allZero weights ≡ false
 
--- 15: a list of 0 or more than 4,096 patterns; else 16: the lowest position of a pattern that the inputs cannot have; else 17: fewer counts than gates
+-- 15: an empty list or one that is too long; else 16: the lowest position of a pattern that the inputs cannot have; else 17: fewer counts than gates
 abbrev pub listedJudgement : ℕ → List ℕ → ℕ → Judgement
 listedJudgement n patterns = wordJudgement patterns (2 ^ n - 1) 16
 

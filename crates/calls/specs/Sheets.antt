@@ -90,7 +90,7 @@ abbrev pub trailer : ℕ → ℕ → ℕ → List ℕ
 trailer n g k =
     n ∷ 0 ∷ g ∷ 0 ∷ k ∷ 0 ∷ 1 ∷ 0 ∷ (20 * g + 2 * k) ∷ 0 ∷ 0 ∷ 0 ∷ (20 * g + 2 * k + 16) ∷ 0 ∷ 0 ∷ 0 ∷ []
 
--- the printed sheet: buffers at chance 0.5 on inputs 0 and 1, and an AND of both that never flips
+-- the printed sheet: behind each input a buffer that flips half of the time, and an AND of both that never does
 abbrev pub printedImage : List ℕ
 printedImage = buffer 0 half ++ (buffer 1 half ++ (andGate 2 3 0 never ++ (twoBytes (4 ∷ []) ++ trailer 2 3 1)))
 
@@ -98,7 +98,7 @@ printedImage = buffer 0 half ++ (buffer 1 half ++ (andGate 2 3 0 never ++ (twoBy
 abbrev pub twoAndsImage : List ℕ
 twoAndsImage = andGate 0 1 1 twentieth ++ (andGate 1 2 1 twentieth ++ (twoBytes (3 ∷ 4 ∷ []) ++ trailer 3 2 2))
 
--- an AND at 0.05 into an inverter at 0.05
+-- an AND with an inverter behind it, each at 0.05
 abbrev pub andInverterImage : List ℕ
 andInverterImage = andGate 0 1 1 twentieth ++ (gateRecord 1 1 2 0 1 twentieth ++ (twoBytes (3 ∷ []) ++ trailer 2 2 1))
 
@@ -117,7 +117,7 @@ gateTwiceImage = buffer 0 half ++ (andGate 1 1 0 never ++ (twoBytes (2 ∷ []) +
 abbrev pub inputTwiceImage : List ℕ
 inputTwiceImage = andGate 0 0 0 never ++ (twoBytes (1 ∷ []) ++ trailer 1 1 1)
 
--- a live gate that one live and one dead gate read
+-- a gate with two readers, one of them dead
 abbrev pub deadReaderImage : List ℕ
 deadReaderImage = buffer 0 half ++ (buffer 1 half ++ (buffer 1 half ++ (twoBytes (2 ∷ []) ++ trailer 1 3 1)))
 

@@ -14,9 +14,9 @@ use Rattle.lists.specs.Lists.{count}
 use Rattle.lists.proofs.Counts.{count-append, count-self, count-other}
 use Rattle.lists.proofs.Every.{map-same}
 use Rattle.netlist.specs.Netlist.{Gate, Netlist, gateAt}
-use Rattle.netlist.specs.Live.{isLive, withGate}
+use Rattle.netlist.specs.Live.{isLive, ifLive, withGate}
 use Rattle.netlist.specs.Seen.{sensitive, pinsWhere, sensitivePins, maskReadsFrom, maskSeen}
-use Rattle.netlist.proofs.Live.{ifLive, count-with}
+use Rattle.netlist.proofs.Live.{count-with}
 use Rattle.netlist.proofs.Masks.{mask-from, mask-settled}
 use Rattle.area.specs.Layout.{mostSources, inputs, gates, outputs, table, pinCount, pin, usedPins, output, outputWords}
 use Rattle.area.specs.Rules.{NetSound}

@@ -1,4 +1,4 @@
--- A table equals its cover on every row. Assumes nothing.
+-- The table made of a cover answers as the cover does, whatever the values. Assumes nothing.
 use Prim.Native.Nat.{ℕ, zero, suc, _+_, _-_, _*_, _/_, _^_, _<_}
 use mathlib.Core.Path.{_≡_, refl, ap, ap₂, sym, _∙_}
 use mathlib.Core.Bool.{Bool, true, false, cond}

@@ -8,10 +8,10 @@ use native.Mathlib.Numerals.{add-one}
 use native.Mathlib.Omega.{arith}
 use lib.ListN.{length, getD, drop, replicate, length-take, length-append}
 use Rattle.lists.specs.Lists.{count}
-use Rattle.netlist.specs.Live.{isLive, withGate, liveReadsFrom, liveReads, readers}
+use Rattle.netlist.specs.Live.{isLive, ifLive, withGate, liveReadsFrom, liveReads, readers}
 use Rattle.lists.proofs.Parts.{zeros-at}
 use Rattle.lists.proofs.Counts.{count-length}
-use Rattle.netlist.proofs.Live.{ifLive, count-with, count-later}
+use Rattle.netlist.proofs.Live.{count-with, count-later}
 use Rattle.area.specs.Layout.{mostPins, mostGates, mostOutputs, mostSources}
 use Rattle.area.specs.Layout.{inputs, gates, outputs, pinCount, pins, usedPins, outputsIndex, outputWords}
 use Rattle.area.specs.Net.{gatesFrom, netOf}

@@ -7,10 +7,9 @@ use native.Mathlib.Nat.{sub-self}
 use native.Mathlib.Omega.{arith}
 use lib.ListN.{getD}
 use Rattle.figure.specs.Figure.{bitOf}
-use Rattle.netlist.specs.Live.{isLive, liveReads, readers, liveAmong, liveGates}
+use Rattle.netlist.specs.Live.{isLive, ifLive, liveReads, readers, liveAmong, liveGates}
 use Rattle.area.specs.Layout.{inputs, gates}
 use Rattle.area.specs.Net.{netOf}
-use Rattle.area.specs.Sum.{flipIf}
 use Rattle.area.proofs.Net.{gate-count, same-live-gates}
 use Rattle.live.specs.Counted.{liveCounted}
 use Rattle.live.proofs.Count.{CountsOf}
@@ -20,10 +19,10 @@ has-reader zero l = absurd (omega arith)
 has-reader (suc r) l = refl
 
 -- what a gate adds to the raw flip sum
-pub flip-live : (r units : ℕ) → 0 < r → flipIf r units ≡ units
+pub flip-live : (r units : ℕ) → 0 < r → ifLive r units ≡ units
 flip-live r units l = rw (has-reader r l)
 
-pub flip-dead : (r units : ℕ) → r ≡ 0 → flipIf r units ≡ 0
+pub flip-dead : (r units : ℕ) → r ≡ 0 → ifLive r units ≡ 0
 flip-dead r units e = rw e
 
 -- what is left of the loop over gates: at gate g of k, the first of which is source n, and at the end

@@ -1,4 +1,4 @@
--- Refusal 9 of document 01: a live gate has two or more live readers. A gate with a live reader is live.
+-- Refusal 9 of document 01: some gate has more than one live reader; it is then live itself.
 use Prim.Native.Nat.{ℕ, _+_}
 use lib.Dec.{leb}
 use lib.ListN.{length}

@@ -5,11 +5,11 @@ ghost use mathlib.Core.Path.{_≡_};
 ghost use mathlib.Core.List.{[]};
 ghost use Prim.Native.Nat.{ℕ, _+_, _<_, _≤_};
 ghost use lib.ListN.{length, getD, take, drop};
-ghost use Rattle.netlist.specs.Live.{readers};
+ghost use Rattle.netlist.specs.Live.{ifLive, readers};
 ghost use Rattle.area.specs.Layout as layout;
 ghost use Rattle.area.specs.Rules.{NetSound};
 ghost use Rattle.area.specs.Net.{netOf};
-ghost use Rattle.area.specs.Sum.{flipIf, flipSum};
+ghost use Rattle.area.specs.Sum.{flipSum};
 ghost use Rattle.live.specs.Counted.{Counts, Added, gateReads, liveCounted};
 ghost use Rattle.live.specs.Shared.{sharedBy};
 use refusal::Judgement;
@@ -33,7 +33,7 @@ fn add_reads(readers: &mut [u32; area::MOST_SOURCES], area: &[u32], start: usize
 fn add_gate(readers: &mut [u32; area::MOST_SOURCES], area: &[u32], gate: usize) -> u32
     requires { ⌜ NetSound (now area) × (gate < layout.gates (now area)) ⌝ }
     requires { ⌜ Counts (now readers) ⌝ }
-    ensures { λ r. ⌜ r ≡ flipIf (getD (now (readers .entry)) (layout.inputs (now (area .entry)) + gate) 0) (layout.flip (now (area .entry)) gate) ⌝ }
+    ensures { λ r. ⌜ r ≡ ifLive (getD (now (readers .entry)) (layout.inputs (now (area .entry)) + gate) 0) (layout.flip (now (area .entry)) gate) ⌝ }
     ensures { λ _. ⌜ Added (now (readers .entry)) (gateReads (now (area .entry)) (now (readers .entry)) gate) (now (readers .exit)) ⌝ }
 {
     let source = area::inputs(area) + gate;
@@ -104,8 +104,8 @@ pub fn live_gates(readers: &[u32; area::MOST_SOURCES], inputs: usize, gates: usi
 
 // A raw flip sum after the flip of one gate, whose source has so many readers, has gone from `old` to `new`.
 pub fn changed_sum(sum: u64, readers: u32, old: u32, new: u32) -> u64
-    requires { ⌜ (flipIf readers old ≤ sum) × (sum + new < 18_446_744_073_709_551_616) ⌝ }
-    ensures { λ r. ⌜ r + flipIf readers old ≡ sum + flipIf readers new ⌝ }
+    requires { ⌜ (ifLive readers old ≤ sum) × (sum + new < 18_446_744_073_709_551_616) ⌝ }
+    ensures { λ r. ⌜ r + ifLive readers old ≡ sum + ifLive readers new ⌝ }
 {
     if readers < 1 {
         return sum;

@@ -16,12 +16,8 @@ use Rattle.lists.proofs.Counts.{count-append, count-below, below-count}
 use Rattle.lists.proofs.Every.{AllFrom, all-head, all-tail}
 use Rattle.lists.proofs.Sums.{sum-first, sum-same, sum-term, sum-some}
 use Rattle.netlist.specs.WellFormed.{pinsBelow, PinsBelow}
-use Rattle.netlist.specs.Live.{isLive, withGate, readsFrom, liveReadsFrom, liveReads, readers, liveAmong}
+use Rattle.netlist.specs.Live.{isLive, ifLive, withGate, readsFrom, liveReadsFrom, liveReads, readers, liveAmong}
 use Rattle.netlist.specs.Live.{Reached, output-reads, gate-reads, Live, Depends, reads, reads-further}
-
--- what a gate with so many live readers adds: nothing if it is dead
-abbrev pub ifLive : ℕ → ℕ → ℕ
-ifLive r k = cond (isLive r) k 0
 
 -- whatever is counted of reads, a gate adds what its pins have if it is live
 pub reads-with : (size : List ℕ → ℕ) → ((xs ys : List ℕ) → size (xs ++ ys) ≡ size xs + size ys) → (s : ℕ) (ps rs : List ℕ)

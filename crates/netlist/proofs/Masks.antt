@@ -12,10 +12,10 @@ use Rattle.lists.specs.Lists.{count, countWhere, Below}
 use Rattle.lists.proofs.Counts.{count-where}
 use Rattle.lists.proofs.Every.{AllFrom, all-head, all-tail, below-tail}
 use Rattle.netlist.specs.Netlist.{Gate, Netlist, noGate, gateAt, pinValues, rightValues}
-use Rattle.netlist.specs.Live.{isLive, withGate, liveReadsFrom}
+use Rattle.netlist.specs.Live.{isLive, ifLive, withGate, liveReadsFrom}
 use Rattle.netlist.specs.WellFormed.{pinsBelow, PinsBelow}
 use Rattle.netlist.specs.Seen.{sensitive, pinsWhere, sensitivePins, maskReadsFrom, maskReads, maskSeen, MaskMeans}
-use Rattle.netlist.proofs.Live.{ifLive, count-with, count-later, reached-read, read-reached}
+use Rattle.netlist.proofs.Live.{count-with, count-later, reached-read, read-reached}
 
 -- a test holds of a part of the pins no oftener than of all
 pub part-where : (u : ℕ → Bool) (t : ℕ → Bool) (i : ℕ) (ps : List ℕ) → countWhere u (pinsWhere t i ps) ≤ countWhere u ps

@@ -17,12 +17,12 @@ use Rattle.netlist.specs.declared.Method.{Method}
 use Rattle.netlist.specs.declared.Method.the-variants.{Flip, Mask}
 use Rattle.netlist.specs.Netlist.{Gate, Netlist, noGate, inputValues, pinValues, values, rightValues}
 use Rattle.netlist.specs.Exact.{outputsAgree}
-use Rattle.netlist.specs.Live.{isLive, withGate, liveReadsFrom, liveReads, readers, SingleReaders}
+use Rattle.netlist.specs.Live.{isLive, ifLive, withGate, liveReadsFrom, liveReads, readers, SingleReaders}
 use Rattle.netlist.specs.WellFormed.{pinsBelow, PinsBelow}
 use Rattle.netlist.specs.Seen.{alone, flipSeen, sensitive, pinsWhere, sensitivePins, maskReadsFrom, maskReads, maskSeen, seenBy, seenCount, seenCounts}
 use Rattle.netlist.specs.Seen.{differ, MethodsAgree, DeadUnseen, MethodsDiffer}
 use Rattle.netlist.proofs.Values.{inputs-length, pins-agree}
-use Rattle.netlist.proofs.Live.{ifLive, live-if, count-more}
+use Rattle.netlist.proofs.Live.{live-if, count-more}
 use Rattle.netlist.proofs.Flipped.{values-keep}
 use Rattle.netlist.proofs.Masks.{part-where, masks-live, mask-later}
 use Rattle.netlist.proofs.Wrong.{differ-not, wrong, wrongReads, none-wrong, wrong-next, wrong-with, is-live, outputs-wrong, gate-wrong}

@@ -14,9 +14,9 @@ use Rattle.lists.proofs.Counts.{where-append, where-never, where-changed}
 use Rattle.figure.specs.Figure.{bitOf, answer, invertIf, inverted}
 use Rattle.netlist.specs.Netlist.{Gate, pinValues}
 use Rattle.netlist.specs.Exact.{outputsAgree}
-use Rattle.netlist.specs.Live.{isLive, withGate}
+use Rattle.netlist.specs.Live.{isLive, ifLive, withGate}
 use Rattle.netlist.specs.Seen.{alone, differ, sensitive, pinsWhere, sensitivePins}
-use Rattle.netlist.proofs.Live.{ifLive, reads-with}
+use Rattle.netlist.proofs.Live.{reads-with}
 use Rattle.netlist.proofs.Masks.{part-where}
 
 -- ---- wrong values

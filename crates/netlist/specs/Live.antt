@@ -13,6 +13,10 @@ abbrev pub isLive : ℕ → Bool
 isLive zero = false
 isLive (suc readers) = true
 
+-- so much for a gate with so many live readers, if it is live
+abbrev pub ifLive : ℕ → ℕ → ℕ
+ifLive readers amount = cond (isLive readers) amount 0
+
 -- the reads rs, with those by the pins of the gate at source s if rs has a read of it
 abbrev pub withGate : ℕ → List ℕ → List ℕ → List ℕ
 withGate s pins rs = cond (isLive (count s rs)) (pins ++ rs) rs

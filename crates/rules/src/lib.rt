@@ -221,10 +221,10 @@ fn sum_right(area: &[u32], sum: u64) -> bool
     requires { ⌜ (layout.headWords ≤ length (now area)) × (sum ≡ flipSum (now area)) ⌝ }
     ensures { λ r. ⌜ r ≡ sumRight (now (area .entry)) ⌝ }
 {
-    if area[area::SUM_LOW] as u64 != sum % 4_294_967_296 {
+    if area[area::SUM_LOW] != area::sum_low(sum) {
         return false;
     }
-    if area[area::SUM_HIGH] as u64 != sum / 4_294_967_296 {
+    if area[area::SUM_HIGH] != area::sum_high(sum) {
         return false;
     }
     area[area::RESERVED] == 0

@@ -19,9 +19,9 @@ use Rattle.figure.proofs.Laws.{failure-at-most, output-at-most}
 use Rattle.area.specs.Layout.{largestFlip, largestFigure, inputs, gates, patternIndex, pattern, reliabilityIndex, sumLowWord, sumHighWord, reservedWord}
 use Rattle.area.specs.Layout.{table, pins, flipIndex, flip, figureIndex, figure, usedPins, outputWords, sourceWord}
 use Rattle.area.specs.Rules.{NetSound, FiguresSound, Workable, Sound}
-use Rattle.netlist.specs.Live.{readers}
+use Rattle.netlist.specs.Live.{ifLive, readers}
 use Rattle.area.specs.Net.{netOf}
-use Rattle.area.specs.Sum.{flipIf, liveFlip, flipSum, lowBits, highBits, storedSum, withSum}
+use Rattle.area.specs.Sum.{liveFlip, flipSum, lowBits, highBits, storedSum, withSum}
 use Rattle.area.proofs.Sum.{same-sum, changed-sum, stored-other, stored-low, stored-high}
 use Rattle.area.specs.Figures.{gateWordFrom, productFrom}
 use Rattle.area.proofs.Words.{gate-inside, used-below, output-below}
@@ -292,7 +292,7 @@ module _ (ws : List ℕ) (g units : ℕ) (small : g < gates ws) where
 
   -- and the raw flip sum
   pub set-sum : NetSound ws
-      → flipSum (setWords ws g units) + liveFlip ws g ≡ flipSum ws + flipIf (readers (netOf ws [] []) (inputs ws + g)) units
+      → flipSum (setWords ws g units) + liveFlip ws g ≡ flipSum ws + ifLive (readers (netOf ws [] []) (inputs ws + g)) units
   set-sum net =
       changed-sum (setWords ws g units) ws g (frame-same-net ws (setWords ws g units) (same-set ws g units small)) small (λ j l other. set-flip-other j other)
-      ∙ ap (λ (u : ℕ). flipSum ws + flipIf (readers (netOf ws [] []) (inputs ws + g)) u) (set-flip net)
+      ∙ ap (λ (u : ℕ). flipSum ws + ifLive (readers (netOf ws [] []) (inputs ws + g)) u) (set-flip net)

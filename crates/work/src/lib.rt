@@ -203,7 +203,7 @@ fn inverted_bit(pattern: u32, input: usize) -> u32
     }
 }
 
-// An input toggled: its bit inverted, the gates that depend on it and the reliability worked out.
+// An input toggled: its bit inverted, then the gates behind it and the reliability worked out.
 pub fn toggle(area: &mut [u32], input: usize)
     requires { ⌜ Workable (now area) ⌝ }
     requires { ⌜ input < inputs (now area) ⌝ }

@@ -208,7 +208,8 @@ impl ExactSums {
     pub fn reliability_is_near(&self, units: u32, exact_sum: &Big) -> bool {
         let have = self.denominator.times_u64(u64::from(units));
         let twice_distance = exact_sum.times_u64(U).distance(&have).times_u64(2);
-        self.halves <= 3 * self.live && twice_distance.at_most(&self.denominator.times_u64(self.halves))
+        self.halves <= 3 * self.live
+            && twice_distance.at_most(&self.denominator.times_u64(self.halves))
     }
 
     /// Whether `units` lies within the sharper error and half a unit of U × the exact average.

@@ -571,7 +571,8 @@ pub fn break_area(random: &mut Random, area: &mut Vec<u32>, counts: Counts, way:
         }
         // A gate that an output reads has another flip than the sum knows of.
         "stale sum" => {
-            let reads = area[gate_at(gates)..needs].iter().map(|source| source.wrapping_sub(inputs));
+            let reads =
+                area[gate_at(gates)..needs].iter().map(|source| source.wrapping_sub(inputs));
             let Some(gate) = reads.filter(|gate| *gate < gates).last() else {
                 return false;
             };

@@ -9,7 +9,9 @@ use second::images::{
     break_area, chain, chance, foreign_area, good_draft, Draft, Record, Size, AREA_BREAKS,
     FIRST_CUT, NEVER,
 };
-use second::model::{gate_at, store_sum, Counts, FIGURE, FLIP, GATE_WORDS, PATTERN, RELIABILITY, U};
+use second::model::{
+    gate_at, store_sum, Counts, FIGURE, FLIP, GATE_WORDS, PATTERN, RELIABILITY, U,
+};
 use second::random::{seed, Random};
 
 const SMALL: Size = Size { inputs: 4, gates: 10, outputs: 4 };

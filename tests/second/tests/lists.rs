@@ -145,12 +145,13 @@ fn the_bounds_can_be_missed() {
         let book = Book::begin(WORDS, &image).expect("a good draft");
         let sum = book.sums().sum(&book.netlist, 0);
         let nearest = (book.sums().milli_units(&sum, &book.netlist) / 1000) as u32;
-        let live = model::live_count(&book.netlist);
-        let too_far = nearest + (3 * live) / 2 + 2;
+        let halves = exact::error_halves(&book.netlist) as u32;
+        let too_far = nearest + halves.div_ceil(2) + 1;
         assert!(!book.sums().reliability_is_near(too_far, &sum));
         let mut weights = vec![0; 1 << book.netlist.inputs];
         weights[0] = 7;
-        assert!(!book.sums().average_is_near(too_far + 1, &book.netlist, &weights));
+        let too_far = nearest + (halves + 1).div_ceil(2) + 1;
+        assert!(!book.sums().average_is_near(too_far, &book.netlist, &weights));
     }
 }
 

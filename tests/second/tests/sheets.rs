@@ -161,7 +161,7 @@ fn no_gates() {
 #[test]
 fn readers_of_live_gates() {
     let buffer = || Record::new(2, &[0], chance(0.5));
-    // One gate on both pins of an AND that an output reads.
+    // An AND that reads one gate twice.
     let shared = draft(1, vec![buffer(), Record::new(8, &[1, 1], NEVER)], &[2]);
     assert_eq!(open_answer(&shared), refused(9, 0));
     // One input on both pins.

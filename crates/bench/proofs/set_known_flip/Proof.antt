@@ -9,11 +9,11 @@ use Rattle.refusal.specs.Judgement.{refuseUnless}
 use Rattle.refusal.proofs.Laws.{otherwise-second}
 use Rattle.chance.specs.Flip.{flipAccepted, flipUnits}
 use Rattle.chance.proofs.Laws.{units-accepted, units-refused, flip-units-at-most}
-use Rattle.netlist.specs.Live.{readers}
+use Rattle.netlist.specs.Live.{ifLive, readers}
 use Rattle.area.specs.Layout.{mostGates, largestFlip, inputs, gates, flip}
 use Rattle.area.specs.Rules.{NetSound, Sound}
 use Rattle.area.specs.Net.{netOf}
-use Rattle.area.specs.Sum.{flipIf, liveFlip, flipSum, storedSum, withSum}
+use Rattle.area.specs.Sum.{liveFlip, flipSum, storedSum, withSum}
 use Rattle.area.proofs.Sum.{few-units, sum-has}
 use Rattle.work.specs.Work.{setWords}
 use Rattle.work.proofs.Frame.{same-set}
@@ -69,8 +69,8 @@ module _ (c : tie.After-index2) where
   old-is : c .before .before .flip .result ≡ flip ws g
   old-is = c .before .before .flip .ensures ∙ ap (flip ws) (c .before .before .before .index .ensures)
 
-  had : flipIf (start .args .live) (c .before .before .flip .result) ≡ liveFlip ws g
-  had = ap₂ flipIf (start .pre .1 .0) old-is
+  had : ifLive (start .args .live) (c .before .before .flip .result) ≡ liveFlip ws g
+  had = ap₂ ifLive (start .pre .1 .0) old-is
 
   enough : liveFlip ws g ≤ start .args .sum
   enough = subst (λ (sum : ℕ). liveFlip ws g ≤ sum) (sym (start .pre .1 .1)) (sum-has ws g (there start))
@@ -118,8 +118,8 @@ returns c =
     set-after-gate (ws d) (a .gate) (a .kind) (a .field)
     ∙ otherwise-second (lentJudgement (ws d) (read-gate (a .gate))) (flipJudgement (a .gate) (a .kind) (a .field)) (start d .pre .0)
     ∙ ap (λ (b : Bool). refuseUnless b 11 (a .gate)) (accepted d .0) in
-    let has : flipIf (a .live) (units d) ≡ flipIf (readers (netOf (ws d) [] []) (inputs (ws d) + g d)) (units d)
-    = ap (λ (r : ℕ). flipIf r (units d)) (start d .pre .1 .0) in
+    let has : ifLive (a .live) (units d) ≡ ifLive (readers (netOf (ws d) [] []) (inputs (ws d) + g d)) (units d)
+    = ap (λ (r : ℕ). ifLive r (units d)) (start d .pre .1 .0) in
     let sum : c .before .before .before .changed-sum .result ≡ flipSum (worked d)
     = omega (
       arith,

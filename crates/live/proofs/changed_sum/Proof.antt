@@ -1,7 +1,7 @@
 -- `live::changed_sum` meets its contract. Assumes nothing.
 use mathlib.Core.Path.{_≡_}
 use native.Mathlib.Omega.{arith}
-use Rattle.area.specs.Sum.{flipIf}
+use Rattle.netlist.specs.Live.{ifLive}
 use Rattle.live.proofs.Counted.{flip-live, flip-dead}
 use Rattle.live.proofs.changed_sum.Statement.{statement}
 use Rattle.live.proofs.changed_sum.Tie as tie
@@ -13,10 +13,10 @@ returns c =
 
 -- a live gate's flip is in the sum
 module _ (c : tie.Else1) where
-  had : flipIf (c .before .args .readers) (c .before .args .old) ≡ c .before .args .old
+  had : ifLive (c .before .args .readers) (c .before .args .old) ≡ c .before .args .old
   had = flip-live (c .before .args .readers) (c .before .args .old) (omega (arith, c .if1 .left))
 
-  has : flipIf (c .before .args .readers) (c .before .args .new) ≡ c .before .args .new
+  has : ifLive (c .before .args .readers) (c .before .args .new) ≡ c .before .args .new
   has = flip-live (c .before .args .readers) (c .before .args .new) (omega (arith, c .if1 .left))
 
 sub-result : tie.Need-sub-result

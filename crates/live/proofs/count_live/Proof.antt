@@ -7,8 +7,9 @@ use native.Mathlib.Nat.{le-refl, zero-add}
 use native.Mathlib.Omega.{arith}
 use lib.ListN.{length}
 use Rattle.lists.specs.Lists.{sumBelow}
+use Rattle.netlist.specs.Live.{ifLive}
 use Rattle.area.specs.Layout.{mostSources, gates, flip}
-use Rattle.area.specs.Sum.{flipIf, liveFlip, flipSum}
+use Rattle.area.specs.Sum.{liveFlip, flipSum}
 use Rattle.area.proofs.Words.{output-source, few-sources}
 use Rattle.live.proofs.Count.{CountsOf, readsAfter, no-reads, first-reads, gate-turn, few-reads, all-counted, all-reads}
 use borrow.Author.Needs.{needs}
@@ -75,7 +76,7 @@ module _ (c : tie.After-add-gate Inv-loop μ-loop) where
   added : c .add-gate .result ≡ liveFlip ws g
   added =
       c .add-gate .ensures .0
-      ∙ ap (λ (r : ℕ). flipIf r (flip ws g)) (all-counted ws (start .pre) g (omega arith) (l .loop .readers) counted)
+      ∙ ap (λ (r : ℕ). ifLive r (flip ws g)) (all-counted ws (start .pre) g (omega arith) (l .loop .readers) counted)
 
   more : sumBelow (l .loop .gate) (liveFlip ws) ≡ sumBelow g (liveFlip ws) + liveFlip ws g
   more =
