@@ -1,10 +1,13 @@
 -- The sharper error of worked netlists, as a table; proofs/Sheets.antt computes it.
-use Prim.Native.Nat.{ℕ}
+use Prim.Native.Nat.{ℕ, _*_, _<_}
 use mathlib.Core.List.{List, [], _∷_, map}
 use mathlib.Core.Path.{_≡_}
 use Rattle.netlist.specs.Netlist.{Gate, Netlist}
+use Rattle.netlist.specs.Exact.{exactSum}
+use Rattle.netlist.specs.Figures.{reliability}
 use Rattle.netlist.specs.Live.{liveGates}
 use Rattle.bound.specs.Sharp.{errorHalves}
+use Rattle.bound.specs.Statements.{denominator}
 
 abbrev pub buffer : ℕ → ℕ → ℕ → Gate
 buffer source kind chance = record { pins = source ∷ []; table = 2; kind = kind; chance = chance }
@@ -61,3 +64,4 @@ rows =
 pub record SharpSheets : Type 0 where
   pub halves-hold : map (λ (r : Row). errorHalves (r .net)) rows ≡ map (λ (r : Row). r .halves) rows
   pub live-hold : map (λ (r : Row). liveGates (r .net)) rows ≡ map (λ (r : Row). r .live) rows
+  pub still-exact : (u d : ℕ) → 0 < u → 0 < d → (q : ℕ) → reliability u d stillChain q * denominator d stillChain ≡ u * exactSum d stillChain q
