@@ -19,11 +19,11 @@ howMany test (p ∷ ps) = bitOf (test p) + howMany test ps
 abbrev pub furtherGates : ℕ → List ℕ → ℕ
 furtherGates n sources = howMany (leb n) sources - 1
 
--- a live gate: 2 where its kind is not 0, and its pins that read gates, less one
+-- a live gate: 2 if its kind is another than 0, and 1 for each pin on a gate but the first
 abbrev pub gateHalves : ℕ → Gate → ℕ
 gateHalves n g = cond (eqb (g .kind) 0) 0 2 + furtherGates n (g .pins)
 
--- all live gates, and the outputs that read gates, less one
+-- all live gates, and 1 for each output on a gate but the first
 unfoldable pub errorHalves : Netlist → ℕ
 errorHalves net =
     sumBelow (length (net .gates)) (λ j. ifLive (readers net (net .inputs + j)) (gateHalves (net .inputs) (gateAt net j)))
