@@ -75,7 +75,8 @@ zero-exact u d posu posd net well single honest none q =
 
 pub never-wider : NeverWider
 never-wider d net well single =
-    le-trans (le-of-eq (halves-are net well)) (three-each net well single (gateHalves (net .inputs)) (λ g. few (eqb (g .kind) 0) (howMany (leb (net .inputs)) (g .pins))))
+    le-trans (le-of-eq (halves-are net well))
+    (three-each net well single (gateHalves (net .inputs)) (λ g. few (eqb (g .kind) 0) (howMany (leb (net .inputs)) (g .pins))))
   where
     few : (b : Bool) (k : ℕ) → cond b 0 2 + (k - 1) ≤ 2 + k
     few true k = omega arith

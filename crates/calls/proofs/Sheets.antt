@@ -30,8 +30,8 @@ unfolding
     readUnits flipUnits flipAccepted inRange fromZeroToOne ofBits flipChance flipOf chanceOf wholeChance chanceScale toUnits roundDiv blend
     openJudgement imageRefusal trailerRefusal lengthRight countsInRange backRight middleRefusal middle gateRefusal outputRefusal gateShape usedBelow
     sharedJudgement readers liveReads liveGates imageNet recordChance recordUnits imageWords middleWords openLive openWords withSum flipSum
-    reliabilityFor averageOf setWords workAll workReliability reliabilityNow workGate gateFigure gateWordFrom gateWord gateFailure gateStep startValues difference
-    answer outputStep exactSum rightValues flipSeen sensitive maskReads maskSeen seenCounts
+    reliabilityFor averageOf setWords workAll workReliability reliabilityNow workGate gateFigure gateWordFrom gateWord gateFailure gateStep startValues
+    difference answer outputStep exactSum rightValues flipSeen sensitive maskReads maskSeen seenCounts
 sheets-hold ws =
     record {
       conversions-hold = refl;
