@@ -5,10 +5,10 @@ use mathlib.Core.List.{List}
 use mathlib.Core.Path.{_≡_, sym, ap, subst, _∙_}
 use native.Mathlib.Omega.{arith}
 use lib.ListN.{length, getD}
-use lib.Pow.{pow-pos}
 use borrow.Author.Tests.{le-leb}
 use Rattle.rounding.specs.Rounding.{unitsInOne}
 use Rattle.chance.specs.Number.{chanceScale}
+use Rattle.chance.proofs.Exact.{scale-pos}
 use Rattle.netlist.specs.Netlist.{Netlist}
 use Rattle.netlist.specs.WellFormed.{WellFormed}
 use Rattle.netlist.specs.Live.{SingleReaders}
@@ -45,10 +45,6 @@ pub record Agree (size : ℕ) (ws : List ℕ) (b : Book) : Type 0 where
   pub honest : (j : ℕ) → j < gates ws → getD kinds j 0 ≡ 0 → getD chances j 0 ≡ 0
   pub same-pattern : pattern ws ≡ b .pattern
   pub single : SingleReaders (b .net)
-
-pub chance-scale-positive : 0 < chanceScale
-unfolding chanceScale
-chance-scale-positive = pow-pos 1074
 
 module _ (size : ℕ) (ws : List ℕ) (b : Book) (agree : Agree size ws b) where
   net : NetSound ws
@@ -98,10 +94,10 @@ module _ (size : ℕ) (ws : List ℕ) (b : Book) (agree : Agree size ws b) where
       record {
         within =
             subst (λ (units : ℕ). WithinBound units b) (sym (figures-held .product))
-            (reliability-bound unitsInOne chanceScale (omega arith) chance-scale-positive (b .net) well-formed (agree .single) (b .pattern));
+            (reliability-bound unitsInOne chanceScale (omega arith) scale-pos (b .net) well-formed (agree .single) (b .pattern));
         sharp =
             subst (λ (units : ℕ). WithinSharp units b) (sym (figures-held .product))
-            (sharp-bound unitsInOne chanceScale (omega arith) chance-scale-positive (b .net) well-formed (agree .single) kinds-honest (b .pattern));
+            (sharp-bound unitsInOne chanceScale (omega arith) scale-pos (b .net) well-formed (agree .single) kinds-honest (b .pattern));
         figures = figures-held;
         sum = record { low = agree .sound .sum .low ∙ ap lowBits sum-is; high = agree .sound .sum .high ∙ ap highBits sum-is };
       }

@@ -22,7 +22,8 @@ use Rattle.fresh.proofs.Calls.{frame-net}
 use Rattle.calls.specs.Calls.{reliabilityFor, averageOf}
 use Rattle.book.specs.Book.{Book}
 use Rattle.book.specs.Statement.{AverageWithin, AverageSharp}
-use Rattle.book.proofs.Agree.{Agree, chance-scale-positive, same-input-count, well-formed, kinds-honest}
+use Rattle.chance.proofs.Exact.{scale-pos}
+use Rattle.book.proofs.Agree.{Agree, same-input-count, well-formed, kinds-honest}
 use Rattle.calls.specs.Judgements.{WeightsFit}
 use Rattle.work.proofs.Sound.{net-same}
 
@@ -68,11 +69,11 @@ module _ (size : ℕ) (ws : List ℕ) (b : Book) (agree : Agree size ws b) where
   pub average-sharp : (weights : List ℕ) → WeightsFit (inputs ws) weights → AverageSharp (averageOf ws weights) weights b
   average-sharp weights fit =
       subst (λ (units : ℕ). AverageSharp units weights b) (sym (average-is weights))
-      (sharp-average unitsInOne chanceScale (omega arith) chance-scale-positive (b .net) (well-formed size ws b agree) (agree .single)
+      (sharp-average unitsInOne chanceScale (omega arith) scale-pos (b .net) (well-formed size ws b agree) (agree .single)
       (kinds-honest size ws b agree) weights (positive weights fit))
 
   pub average-within : (weights : List ℕ) → WeightsFit (inputs ws) weights → AverageWithin (averageOf ws weights) weights b
   average-within weights fit =
       subst (λ (units : ℕ). AverageWithin units weights b) (sym (average-is weights))
-      (average-bound unitsInOne chanceScale (omega arith) chance-scale-positive (b .net) (well-formed size ws b agree) (agree .single) weights
+      (average-bound unitsInOne chanceScale (omega arith) scale-pos (b .net) (well-formed size ws b agree) (agree .single) weights
       (positive weights fit))

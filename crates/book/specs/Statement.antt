@@ -5,16 +5,14 @@ use mathlib.Core.Logic.{_≢_}
 use mathlib.Core.Path.{_≡_}
 use lib.ListN.{length, getD}
 use Rattle.refusal.specs.declared.Judgement.the-variants.{Fine, Refused}
-use Rattle.rounding.specs.Rounding.{unitsInOne, Near}
+use Rattle.rounding.specs.Rounding.{unitsInOne}
 use Rattle.chance.specs.Number.{chanceScale}
 use Rattle.netlist.specs.declared.Method.the-variants.{Flip}
 use Rattle.netlist.specs.Live.{liveGates}
 use Rattle.netlist.specs.Sum.{rawFlipSum}
-use Rattle.netlist.specs.Exact.{exactSum}
-use Rattle.netlist.specs.Average.{totalWeight, exactAverageSum}
 use Rattle.netlist.specs.Seen.{seenCounts}
 use Rattle.bound.specs.Sharp.{errorHalves}
-use Rattle.bound.specs.Statements.{denominator}
+use Rattle.bound.specs.Statements.{NearExact, NearAverage}
 use Rattle.area.specs.Layout.{gates, outputs, reliabilityWord, sumLowWord, sumHighWord, needed}
 use Rattle.area.specs.Sum.{lowBits, highBits}
 use Rattle.area.specs.Net.{netOf}
@@ -25,36 +23,19 @@ use Rattle.calls.specs.Judgements.{openJudgement, judgement}
 use Rattle.calls.specs.Calls.{openWords, averageOf, left}
 use Rattle.book.specs.Book.{Book, imageBook, bookJudgement, bookStep}
 
--- these units lie no more than 1.5 for each live gate from U × the exact sum at the book's pattern: in half units, times the exact sum's denominator
+-- so many units are within 1.5 for each live gate of U × the exact sum at the book's pattern, and so many as an average within half a unit more
 abbrev pub WithinBound : ℕ → Book → Type 0
-WithinBound units b =
-    Near
-    (3 * liveGates (b .net) * denominator chanceScale (b .net))
-    (2 * (units * denominator chanceScale (b .net)))
-    (2 * (unitsInOne * exactSum chanceScale (b .net) (b .pattern)))
+WithinBound units b = NearExact (3 * liveGates (b .net)) unitsInOne chanceScale (b .net) (b .pattern) units
 
--- an average may lie half a unit further from U × the exact one: times the sum of weights too
 abbrev pub AverageWithin : ℕ → List ℕ → Book → Type 0
-AverageWithin units weights b =
-    Near
-    ((3 * liveGates (b .net) + 1) * totalWeight (b .net) weights * denominator chanceScale (b .net))
-    (2 * (units * totalWeight (b .net) weights * denominator chanceScale (b .net)))
-    (2 * (unitsInOne * exactAverageSum chanceScale (b .net) weights))
+AverageWithin units weights b = NearAverage (3 * liveGates (b .net) + 1) unitsInOne chanceScale (b .net) weights units
 
--- the same with the sharper error of document 02, card 6, by the book's kinds; for an average one half unit more
+-- the same with the sharper error of document 02, card 6, by the book's kinds
 abbrev pub WithinSharp : ℕ → Book → Type 0
-WithinSharp units b =
-    Near
-    (errorHalves (b .net) * denominator chanceScale (b .net))
-    (2 * (units * denominator chanceScale (b .net)))
-    (2 * (unitsInOne * exactSum chanceScale (b .net) (b .pattern)))
+WithinSharp units b = NearExact (errorHalves (b .net)) unitsInOne chanceScale (b .net) (b .pattern) units
 
 abbrev pub AverageSharp : ℕ → List ℕ → Book → Type 0
-AverageSharp units weights b =
-    Near
-    ((errorHalves (b .net) + 1) * totalWeight (b .net) weights * denominator chanceScale (b .net))
-    (2 * (units * totalWeight (b .net) weights * denominator chanceScale (b .net)))
-    (2 * (unitsInOne * exactAverageSum chanceScale (b .net) weights))
+AverageSharp units weights b = NearAverage (errorHalves (b .net) + 1) unitsInOne chanceScale (b .net) weights units
 
 -- words 5 and 6 hold the low and the high 32 bits of the book's raw flip sum, its chances converted
 pub record SumHeld (ws : List ℕ) (b : Book) : Type 0 where

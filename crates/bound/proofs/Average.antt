@@ -15,7 +15,7 @@ use Rattle.netlist.specs.Figures.{reliability}
 use Rattle.netlist.specs.Live.{liveGates}
 use Rattle.lists.specs.Lists.{sumBelow}
 use Rattle.netlist.specs.Average.{weightedSum, totalWeight, exactAverageSum, averageUnits}
-use Rattle.bound.specs.Statements.{denominator, ReliabilityBound, AverageBound, SharpBound, SharpAverage, ZeroExact, NeverWider}
+use Rattle.bound.specs.Statements.{denominator, NearExact, NearAverage, ReliabilityBound, AverageBound, SharpBound, SharpAverage, ZeroExact, NeverWider}
 use Rattle.bound.specs.Sharp.{howMany, gateHalves, errorHalves}
 use Rattle.bound.proofs.Near.{near-at, near-trans, near-add, near-scale}
 use Rattle.bound.proofs.Bound.{bound, sharp}
@@ -37,11 +37,7 @@ weighted-near (suc k) e a b weight F H h =
 
 -- whatever half units every pattern is within, the average is within one more
 averaged : (u d : ℕ) (net : Netlist) (weights : List ℕ) → 0 < totalWeight net weights → (halves : ℕ)
-    → ((q : ℕ) → Near (halves * denominator d net) (2 * (reliability u d net q * denominator d net)) (2 * (u * exactSum d net q)))
-    → Near
-    ((halves + 1) * totalWeight net weights * denominator d net)
-    (2 * (averageUnits u d net weights * totalWeight net weights * denominator d net))
-    (2 * (u * exactAverageSum d net weights))
+    → ((q : ℕ) → NearExact halves u d net q (reliability u d net q)) → NearAverage (halves + 1) u d net weights (averageUnits u d net weights)
 unfolding averageUnits exactAverageSum totalWeight
 averaged u d net weights pos halves each =
     let W = totalWeight net weights in

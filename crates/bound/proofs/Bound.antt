@@ -27,7 +27,8 @@ use Rattle.bound.proofs.Bits.{foldBits, Once}
 use Rattle.bound.proofs.Replace.{charges, Local, replaced}
 use Rattle.bound.proofs.Rounded.{right-share, wrong-share, shares-sum}
 use Rattle.bound.specs.Sharp.{furtherGates, gateHalves, errorHalves, KindsHonest}
-use Rattle.bound.proofs.Local.{outputs-near, gate-near, gate-sharp}
+use Rattle.bound.specs.Statements.{NearExact}
+use Rattle.bound.proofs.Local.{Within, outputs-near, gate-near, gate-sharp}
 use Rattle.bound.proofs.Charge.{three-each, halves-are}
 use Rattle.bound.proofs.Shares.{ifRight, right-at-most, rightGiven, wrongGiven, given-sum}
 use Rattle.bound.proofs.Literal.{errorsFrom, literal}
@@ -160,16 +161,7 @@ module _ (u d : ℕ) (posu : 0 < u) (posd : 0 < d) (net : Netlist) (well : WellF
 
     -- a gate's failure is its figure by itself
     figure-is : (j : ℕ) → j < length (net .gates) → (halves : ℕ)
-        → Near
-        (halves * ((u * d) ^ length (gateAt net j .pins) * (u * d)))
-        (2
-        * (u
-        * ((u * d) ^ length (gateAt net j .pins)
-        * (d
-        * gateStep u
-        (foldOver u (map f (gateAt net j .pins)) (difference u (gateAt net j .table) (pinValues (rightValues net q) (gateAt net j .pins))))
-        (toUnits u d (gateAt net j .chance))))))
-        (2 * (u * foldBits r w (gateAt net j .pins) (wrongGiven u d (rightValues net q) (gateAt net j))))
+        → Within u d posu posd (failures u d net q) f-most isGate never halves (rightValues net q) (gateAt net j)
         → Local u (u * d) r w (λ t. wrongGiven u d (rightValues net q)) (λ g. halves) (net .inputs + j) (gateAt net j)
     unfolding gateFailure
     figure-is j l halves n =
@@ -187,20 +179,14 @@ module _ (u d : ℕ) (posu : 0 < u) (posd : 0 < d) (net : Netlist) (well : WellF
     -- any charge that is at least what each gate costs by itself, and the outputs that read gates, less one
     charged : (charge : Gate → ℕ)
         → ((j : ℕ) → j < length (net .gates) → Local u (u * d) r w (λ t. wrongGiven u d (rightValues net q)) charge (net .inputs + j) (gateAt net j))
-        → Near
-        ((charges (net .outputs) charge (net .inputs) (net .gates) + furtherGates (net .inputs) (net .outputs)) * d ^ length (net .gates))
-        (2 * (reliability u d net q * d ^ length (net .gates)))
-        (2 * (u * exactSum d net q))
+        → NearExact (charges (net .outputs) charge (net .inputs) (net .gates) + furtherGates (net .inputs) (net .outputs)) u d net q (reliability u d net q)
     unfolding reliability
     charged charge gates =
         charged-bound charge (furtherGates (net .inputs) (net .outputs)) gates
         (outputs-near u d posu posd (failures u d net q) f-most isGate never (net .outputs))
 
     -- three half units for each live gate
-    pub bound : Near
-        (3 * liveGates net * d ^ length (net .gates))
-        (2 * (reliability u d net q * d ^ length (net .gates)))
-        (2 * (u * exactSum d net q))
+    pub bound : NearExact (3 * liveGates net) u d net q (reliability u d net q)
     bound =
         let charge : Gate → ℕ = λ g. 2 + furtherGates (net .inputs) (g .pins) in
         near-weaken
@@ -210,11 +196,7 @@ module _ (u d : ℕ) (posu : 0 < u) (posd : 0 < d) (net : Netlist) (well : WellF
         (gate-near u d posu posd (failures u d net q) f-most isGate never (rightValues net q) (gateAt net j) (well .chances j l))))
 
     -- the sharper one
-    pub sharp : KindsHonest net
-        → Near
-        (errorHalves net * d ^ length (net .gates))
-        (2 * (reliability u d net q * d ^ length (net .gates)))
-        (2 * (u * exactSum d net q))
+    pub sharp : KindsHonest net → NearExact (errorHalves net) u d net q (reliability u d net q)
     sharp honest =
         near-at
         (ap (λ (k : ℕ). k * d ^ length (net .gates)) (sym (halves-are net well)))

@@ -19,28 +19,27 @@ use Rattle.netlist.specs.WellFormed.{pinsBelow, WellFormed}
 use Rattle.netlist.specs.Live.{isLive, ifLive, withGate, liveReadsFrom, liveReads, readers, liveAmong, liveGates, SingleReaders}
 use Rattle.bound.specs.Sharp.{howMany, furtherGates, gateHalves, errorHalves}
 use Rattle.netlist.proofs.Live.{reads-with, count-later, among-step}
-use Rattle.bound.proofs.Rounded.{failing}
 use Rattle.bound.proofs.Replace.{charges}
 
-failing-append : (m : ℕ → Bool) (xs ys : List ℕ) → failing m (xs ++ ys) ≡ failing m xs + failing m ys
-failing-append m [] ys = omega arith
-failing-append m (x ∷ xs) ys = omega (arith, failing-append m xs ys)
+many-append : (m : ℕ → Bool) (xs ys : List ℕ) → howMany m (xs ++ ys) ≡ howMany m xs + howMany m ys
+many-append m [] ys = omega arith
+many-append m (x ∷ xs) ys = omega (arith, many-append m xs ys)
 
-pub failing-with : (m : ℕ → Bool) (s : ℕ) (ps rs : List ℕ) → failing m (withGate s ps rs) ≡ ifLive (count s rs) (failing m ps) + failing m rs
-failing-with m = reads-with (failing m) (failing-append m)
+pub many-with : (m : ℕ → Bool) (s : ℕ) (ps rs : List ℕ) → howMany m (withGate s ps rs) ≡ ifLive (count s rs) (howMany m ps) + howMany m rs
+many-with m = reads-with (howMany m) (many-append m)
 
 -- two half units for each live gate and one for each live read of a source that may fail
 pub charge-total : (m : ℕ → Bool) (outputs : List ℕ) (s : ℕ) (gs : List Gate)
-    → charges outputs (λ g. 2 + failing m (g .pins)) s gs + failing m outputs
-    ≡ 2 * charges outputs (λ g. 1) s gs + failing m (liveReadsFrom outputs s gs)
+    → charges outputs (λ g. 2 + howMany m (g .pins)) s gs + howMany m outputs
+    ≡ 2 * charges outputs (λ g. 1) s gs + howMany m (liveReadsFrom outputs s gs)
 charge-total m outputs s [] = omega arith
 charge-total m outputs s (g ∷ gs) =
     let later = liveReadsFrom outputs (suc s) gs in
     omega (
       arith,
       charge-total m outputs (suc s) gs,
-      failing-with m s (g .pins) later,
-      twice (count s later) (failing m (g .pins)),
+      many-with m s (g .pins) later,
+      twice (count s later) (howMany m (g .pins)),
     )
   where
     twice : (c k : ℕ) → ifLive c (2 + k) ≡ 2 * ifLive c 1 + ifLive c k
@@ -67,7 +66,7 @@ module _ (m : ℕ → Bool) where
   liveWhere outputs s [] = 0
   liveWhere outputs s (g ∷ gs) = cond (m s) (ifLive (count s (liveReadsFrom outputs (suc s) gs)) 1) 0 + liveWhere outputs (suc s) gs
 
-  from-below : (s : ℕ) (ps : List ℕ) → Below s ps → failing (sourcesFrom s) ps ≡ 0
+  from-below : (s : ℕ) (ps : List ℕ) → Below s ps → howMany (sourcesFrom s) ps ≡ 0
   from-below s [] below = refl
   from-below s (p ∷ ps) below =
       ap₂ _+_ (ap (λ (c : Bool). bitOf (cond c (m p) false)) (lt-leb s p (below 0 (omega arith)))) (from-below s ps (below-tail s p ps below))
@@ -77,7 +76,7 @@ module _ (m : ℕ → Bool) where
   none false = refl
 
   -- the reads from s on are those of s and those from s + 1 on
-  from-next : (s : ℕ) (rs : List ℕ) → failing (sourcesFrom s) rs ≡ cond (m s) (count s rs) 0 + failing (sourcesFrom (suc s)) rs
+  from-next : (s : ℕ) (rs : List ℕ) → howMany (sourcesFrom s) rs ≡ cond (m s) (count s rs) 0 + howMany (sourcesFrom (suc s)) rs
   from-next s [] = omega (arith, none (m s))
   from-next s (r ∷ rs) = omega (arith, from-next s rs, one, add (m s))
     where
@@ -108,7 +107,7 @@ module _ (m : ℕ → Bool) where
   -- where each gate that may fail is read at most once, there is at most one read of such a gate for each live one
   pub one-each-where : (outputs : List ℕ) (s : ℕ) (gs : List Gate) → AllFrom noGate pinsBelow s gs → Below (s + length gs) outputs
       → ((t : ℕ) → s ≤ t → t < s + length gs → m t ≡ true → count t (liveReadsFrom outputs s gs) ≤ 1)
-      → failing (sourcesFrom s) (liveReadsFrom outputs s gs) ≤ liveWhere outputs s gs
+      → howMany (sourcesFrom s) (liveReadsFrom outputs s gs) ≤ liveWhere outputs s gs
   one-each-where outputs s [] below outs single = omega (arith, from-below s outputs (λ i l. omega (arith, outs i l)))
   one-each-where outputs s (g ∷ gs) below outs single =
       let later = liveReadsFrom outputs (suc s) gs in
@@ -124,8 +123,8 @@ module _ (m : ℕ → Bool) where
       (λ t l k h. omega (arith, single t (omega arith) (omega arith) h, same t (omega arith))) in
       omega (
         arith,
-        failing-with (sourcesFrom s) s (g .pins) later,
-        nothing (count s later) (failing (sourcesFrom s) (g .pins)) (from-below s (g .pins) pins),
+        many-with (sourcesFrom s) s (g .pins) later,
+        nothing (count s later) (howMany (sourcesFrom s) (g .pins)) (from-below s (g .pins) pins),
         from-next s later,
         once (m s) (count s later) (λ h. omega (arith, single s (le-refl s) (omega arith) h, same s (le-refl s))),
       )
@@ -142,10 +141,10 @@ module _ (m : ℕ → Bool) where
 -- where each gate is read at most once, there is at most one read for each live gate
 pub one-each : (outputs : List ℕ) (s : ℕ) (gs : List Gate) → AllFrom noGate pinsBelow s gs → Below (s + length gs) outputs
     → ((j : ℕ) → j < length gs → count (s + j) (liveReadsFrom outputs s gs) ≤ 1)
-    → failing (leb s) (liveReadsFrom outputs s gs) ≤ charges outputs (λ g. 1) s gs
+    → howMany (leb s) (liveReadsFrom outputs s gs) ≤ charges outputs (λ g. 1) s gs
 one-each outputs s gs below outs single =
     let rs = liveReadsFrom outputs s gs in
-    let all : failing (sourcesFrom (λ t. true) s) rs ≡ failing (leb s) rs = ap (λ (m : ℕ → Bool). failing m rs) (fun-ext (λ t. same (leb s t))) in
+    let all : howMany (sourcesFrom (λ t. true) s) rs ≡ howMany (leb s) rs = ap (λ (m : ℕ → Bool). howMany m rs) (fun-ext (λ t. same (leb s t))) in
     omega (arith, live s gs, one-each-where (λ t. true) outputs s gs below outs (λ t l k h. at t (t - s) (omega arith) (omega arith)))
   where
     same : (b : Bool) → cond b true false ≡ b

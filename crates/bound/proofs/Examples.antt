@@ -5,7 +5,7 @@ use mathlib.Core.Path.{refl}
 use native.Mathlib.Omega.{arith}
 use lib.ListN.{length}
 use lib.Dec.{le→leb, lit≤, lit<}
-use Rattle.rounding.specs.Rounding.{roundDiv, blend, toUnits, Near}
+use Rattle.rounding.specs.Rounding.{roundDiv, blend, toUnits}
 use Rattle.figure.specs.Figure.{answer, difference, startValues, gateStep, gateFailure, outputStep}
 use Rattle.lists.proofs.Every.{below-holds}
 use Rattle.netlist.specs.Netlist.{gateAt, rightValues}
@@ -14,7 +14,7 @@ use Rattle.netlist.specs.Exact.{exactSum}
 use Rattle.netlist.specs.Figures.{failures, reliability}
 use Rattle.netlist.specs.Live.{liveReads, readers, liveGates, SingleReaders}
 use Rattle.netlist.proofs.Examples.{forgiving, shared}
-use Rattle.bound.specs.Statements.{denominator}
+use Rattle.bound.specs.Statements.{NearExact}
 use Rattle.bound.proofs.Average.{reliability-bound}
 
 -- a netlist that meets what the bound asks
@@ -38,17 +38,12 @@ forgiving-single (suc zero) l = lit≤ tt
 forgiving-single (suc (suc j)) l = absurd (omega arith)
 
 -- so its figures are within three units of the exact ones
-pub forgiving-bound : (q : ℕ)
-    → Near (6 * denominator 4 forgiving) (2 * (reliability 16 4 forgiving q * denominator 4 forgiving)) (2 * (16 * exactSum 4 forgiving q))
+pub forgiving-bound : (q : ℕ) → NearExact 6 16 4 forgiving q (reliability 16 4 forgiving q)
 unfolding liveGates liveReads
 forgiving-bound q = reliability-bound 16 4 (lit< tt) (lit< tt) forgiving forgiving-well forgiving-single q
 
 -- a gate on two outputs breaks the bound
-pub shared-breaks : Near
-    (3 * liveGates shared * denominator 4 shared)
-    (2 * (reliability 16 4 shared 0 * denominator 4 shared))
-    (2 * (16 * exactSum 4 shared 0))
-    → ⊥
+pub shared-breaks : NearExact (3 * liveGates shared) 16 4 shared 0 (reliability 16 4 shared 0) → ⊥
 unfolding
     liveGates liveReads exactSum reliability failures rightValues gateFailure gateStep startValues difference answer outputStep blend roundDiv toUnits
 shared-breaks n = le→leb (2 * (16 * exactSum 4 shared 0)) _ (n .down)

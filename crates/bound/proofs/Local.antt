@@ -4,23 +4,24 @@ use Prim.Native.Nat.{ℕ, _+_, _-_, _*_, _^_, _≤_, _<_, zero-le}
 use mathlib.Core.Bool.{Bool, true, false, cond, not}
 use mathlib.Core.List.{List, [], _∷_, map}
 use mathlib.Core.Path.{_≡_, refl, sym, ap, subst, fun-ext, _∙_}
-use native.Mathlib.Nat.{mul-one, mul-zero, zero-mul, mul-comm, mul-left-comm, zero-add, sub-zero, le-refl}
+use native.Mathlib.Nat.{mul-one, mul-zero, mul-comm, mul-left-comm, zero-add, sub-zero, le-refl}
 use native.Mathlib.Omega.{arith}
 use lib.ListN.{length, getD}
 use lib.Arith.{sub-sub-self, le-zero}
 use lib.Dec.{eqb}
 use borrow.Author.Tests.{eqb-true}
-use Rattle.rounding.specs.Rounding.{blend, roundDiv, toUnits, Near}
-use Rattle.rounding.proofs.Laws.{blend-none, blend-at-most, exact}
+use Rattle.rounding.specs.Rounding.{blend, toUnits, Near}
+use Rattle.rounding.proofs.Laws.{no-units, blend-none, blend-at-most}
 use Rattle.figure.specs.Figure.{bitOf, difference, gateStep, outputStep}
 use Rattle.figure.proofs.Fold.{foldOver}
 use Rattle.lists.proofs.Every.{map-all}
 use Rattle.netlist.specs.Netlist.{Gate, pinValues}
 use Rattle.netlist.specs.Figures.{reliabilityFrom}
 use Rattle.netlist.proofs.Failures.{units-at-most, fold-at-most, start-at-most}
+use Rattle.bound.specs.Sharp.{howMany}
 use Rattle.bound.proofs.Near.{near-at, near-scale}
 use Rattle.bound.proofs.Bits.{foldBits, bits-linear, bits-add, bits-const}
-use Rattle.bound.proofs.Rounded.{blend-near, units-near, failing, right-share, wrong-share, shares-sum, whole-near, gate-mean}
+use Rattle.bound.proofs.Rounded.{blend-near, units-near, right-share, wrong-share, shares-sum, whole-near, gate-mean}
 use Rattle.bound.proofs.Shares.{ifRight, right-map, unmoved, keepShare, flipShare, wrongGiven}
 
 -- nothing wrong and nothing right is nothing
@@ -37,11 +38,6 @@ reliability-fold u pos fs small (o ∷ os) s =
     ∙ ap
     (foldOver u (map (λ (o : ℕ). getD fs o 0) os))
     (fun-ext (right-map (λ x. blend u x 0 (getD fs o 0)) (blend-zero u (getD fs o 0) pos (small o)) s))
-
--- chance 0 is no unit
-no-units : (u d : ℕ) → 0 < d → toUnits u d 0 ≡ 0
-unfolding toUnits
-no-units u d pos = ap (λ (z : ℕ). roundDiv z d) (zero-mul u ∙ sym (zero-mul d)) ∙ exact 0 d pos
 
 right-times : (u : ℕ) (bs : List Bool) → ifRight u bs ≡ u * ifRight 1 bs
 right-times u bs = ap (λ (z : ℕ). ifRight z bs) (sym (mul-one u)) ∙ right-map (λ x. u * x) (mul-zero u) 1 bs
@@ -60,7 +56,7 @@ module _ (u d : ℕ) (posu : 0 < u) (posd : 0 < d) (fs : List ℕ) (small : (s :
   -- one half unit for each output that may fail, less one
   pub outputs-near : (os : List ℕ)
       → Near
-      ((failing mayFail os - 1) * (u * d) ^ length os)
+      ((howMany mayFail os - 1) * (u * d) ^ length os)
       (2 * (reliabilityFrom u fs u os * (u * d) ^ length os))
       (2 * (u * foldBits r w os (ifRight 1)))
   outputs-near os =
@@ -97,7 +93,7 @@ module _ (u d : ℕ) (posu : 0 < u) (posd : 0 < d) (fs : List ℕ) (small : (s :
         split false = omega arith
 
     -- the pins' fold: one half unit for each that may fail, less one
-    pins-near : Near ((failing mayFail ps - 1) * x) (2 * (m * x)) (2 * (u * foldBits r w ps moves))
+    pins-near : Near ((howMany mayFail ps - 1) * x) (2 * (m * x)) (2 * (u * foldBits r w ps moves))
     pins-near = whole-near u d posu f small mayFail never ps W moves (λ bs. exact (still bs))
       where
         exact : (c : Bool) → cond c 0 u ≡ u * bitOf (not c)
@@ -107,7 +103,7 @@ module _ (u d : ℕ) (posu : 0 < u) (posd : 0 < d) (fs : List ℕ) (small : (s :
     -- a gate that may flip: two half units more, for the conversion and the gate step
     pub step-near : (c : ℕ) → c ≤ d
         → Near
-        ((2 + (failing mayFail ps - 1)) * (x * (u * d)))
+        ((2 + (howMany mayFail ps - 1)) * (x * (u * d)))
         (2 * (u * (x * (d * gateStep u m (toUnits u d c)))))
         (2 * (u * foldBits r w ps (λ bs. cond (still bs) (flipShare u d c) (keepShare u d c))))
     unfolding gateStep
@@ -129,7 +125,7 @@ module _ (u d : ℕ) (posu : 0 < u) (posd : 0 < d) (fs : List ℕ) (small : (s :
         u
         d
         x
-        (failing mayFail ps - 1)
+        (howMany mayFail ps - 1)
         m
         (u - m)
         p
@@ -153,7 +149,7 @@ module _ (u d : ℕ) (posu : 0 < u) (posd : 0 < d) (fs : List ℕ) (small : (s :
 
     -- a gate that never flips: its step changes nothing
     pub still-near : Near
-        ((failing mayFail ps - 1) * (x * (u * d)))
+        ((howMany mayFail ps - 1) * (x * (u * d)))
         (2 * (u * (x * (d * gateStep u m (toUnits u d 0)))))
         (2 * (u * foldBits r w ps (λ bs. cond (still bs) (flipShare u d 0) (keepShare u d 0))))
     unfolding gateStep
@@ -162,34 +158,34 @@ module _ (u d : ℕ) (posu : 0 < u) (posd : 0 < d) (fs : List ℕ) (small : (s :
         let wrong = parts 0 zero-le in
         let full : d - 0 ≡ d = sub-zero d in
         near-at
-        (mul-left-comm (u * d) (failing mayFail ps - 1) x ∙ ap (λ (z : ℕ). (failing mayFail ps - 1) * z) (mul-comm (u * d) x))
+        (mul-left-comm (u * d) (howMany mayFail ps - 1) x ∙ ap (λ (z : ℕ). (howMany mayFail ps - 1) * z) (mul-comm (u * d) x))
         (omega arith ∙ ap (λ (z : ℕ). 2 * (u * (x * (d * z)))) kept)
         (omega (arith, ap (λ (z : ℕ). u * z) wrong, ap (λ (z : ℕ). u * (u * z * foldBits r w ps moves)) full))
         (near-scale (u * d) pins-near)
 
   -- a gate's figure, by the errors of its pins
-  abbrev figure : List Bool → Gate → ℕ
+  abbrev pub figure : List Bool → Gate → ℕ
   figure vs g = gateStep u (foldOver u (map f (g .pins)) (difference u (g .table) (pinValues vs (g .pins)))) (toUnits u d (g .chance))
 
-  abbrev Within : ℕ → List Bool → Gate → Type 0
+  abbrev pub Within : ℕ → List Bool → Gate → Type 0
   Within halves vs g =
       Near
       (halves * ((u * d) ^ length (g .pins) * (u * d)))
       (2 * (u * ((u * d) ^ length (g .pins) * (d * figure vs g))))
       (2 * (u * foldBits r w (g .pins) (wrongGiven u d vs g)))
 
-  pub gate-near : (vs : List Bool) (g : Gate) → g .chance ≤ d → Within (2 + (failing mayFail (g .pins) - 1)) vs g
+  pub gate-near : (vs : List Bool) (g : Gate) → g .chance ≤ d → Within (2 + (howMany mayFail (g .pins) - 1)) vs g
   unfolding difference
   gate-near vs g hc = step-near (g .pins) (unmoved vs g) (g .chance) hc
 
   -- without those two half units where its kind is 0
   pub gate-sharp : (vs : List Bool) (g : Gate) → g .chance ≤ d → (g .kind ≡ 0 → g .chance ≡ 0)
-      → Within (cond (eqb (g .kind) 0) 0 2 + (failing mayFail (g .pins) - 1)) vs g
+      → Within (cond (eqb (g .kind) 0) 0 2 + (howMany mayFail (g .pins) - 1)) vs g
   unfolding difference
   gate-sharp vs g hc honest = go (eqb (g .kind) 0) refl
     where
       k : ℕ
-      k = failing mayFail (g .pins) - 1
+      k = howMany mayFail (g .pins) - 1
 
       go : (b : Bool) → eqb (g .kind) 0 ≡ b → Within (cond b 0 2 + k) vs g
       go false e = step-near (g .pins) (unmoved vs g) (g .chance) hc

@@ -35,10 +35,6 @@ mean-near u d k x r w a b m f g sum step nr nw =
     let last : g * d * (2 * (u * a)) + f * d * (2 * (u * b)) ≡ 2 * (u * (d * g * a + d * f * b)) = omega arith in
     near-at total (omega arith) last (near-trans (near-at refl refl middle one) two)
 
--- how many of these sources may fail
-abbrev pub failing : (ℕ → Bool) → List ℕ → ℕ
-failing mayFail ps = howMany mayFail ps
-
 -- the shares of a source's bit, right and wrong, of u * d together: f s is its failure
 abbrev pub right-share : ℕ → ℕ → (ℕ → ℕ) → ℕ → ℕ
 right-share u d f s = d * (u - f s)
@@ -91,7 +87,7 @@ module _ (u d : ℕ) (posu : 0 < u) (f : ℕ → ℕ) (f-most : (s : ℕ) → f 
   -- the fold in whole units against the fold of shares
   pub fold-near : (ps : List ℕ) (k x : ℕ) (W X : List Bool → ℕ) → ((bs : List Bool) → Near (k * x) (2 * (W bs * x)) (2 * (u * X bs)))
       → Near
-      ((k + failing mayFail ps) * ((u * d) ^ length ps * x))
+      ((k + howMany mayFail ps) * ((u * d) ^ length ps * x))
       (2 * (foldOver u (map f ps) W * ((u * d) ^ length ps * x)))
       (2 * (u * foldBits (right-share u d f) (wrong-share u d f) ps X))
   fold-near [] k x W X h =
@@ -113,7 +109,7 @@ module _ (u d : ℕ) (posu : 0 < u) (f : ℕ → ℕ) (f-most : (s : ℕ) → f 
   -- from whole numbers of u the first pin that may fail is folded exactly, so it costs nothing
   pub whole-near : (ps : List ℕ) (W X : List Bool → ℕ) → ((bs : List Bool) → W bs ≡ u * X bs)
       → Near
-      ((failing mayFail ps - 1) * (u * d) ^ length ps)
+      ((howMany mayFail ps - 1) * (u * d) ^ length ps)
       (2 * (foldOver u (map f ps) W * (u * d) ^ length ps))
       (2 * (u * foldBits (right-share u d f) (wrong-share u d f) ps X))
   whole-near [] W X e = omega (arith, pow-zero (u * d), ap (λ (z : ℕ). W [] * z) (pow-zero (u * d)), e [])
@@ -140,11 +136,11 @@ module _ (u d : ℕ) (posu : 0 < u) (f : ℕ → ℕ) (f-most : (s : ℕ) → f 
           → ((F Y : List Bool → ℕ)
           → ((bs : List Bool) → F bs ≡ u * Y bs)
           → Near
-          ((failing mayFail ps - 1) * x)
+          ((howMany mayFail ps - 1) * x)
           (2 * (foldOver u (map f ps) F * x))
           (2 * (u * foldBits (right-share u d f) (wrong-share u d f) ps Y)))
           → Near
-          ((bitOf c + failing mayFail ps - 1) * (u * d) ^ suc (length ps))
+          ((bitOf c + howMany mayFail ps - 1) * (u * d) ^ suc (length ps))
           (2 * (foldOver u (map f ps) W′ * (u * d) ^ suc (length ps)))
           (2 * (u * foldBits (right-share u d f) (wrong-share u d f) ps X′))
       go true c later =
@@ -166,8 +162,8 @@ module _ (u d : ℕ) (posu : 0 < u) (f : ℕ → ℕ) (f-most : (s : ℕ) → f 
           ∙ ap₂ (λ (y z : ℕ). y * a + z * b) right wrong
           ∙ omega arith in
           near-at
-          (mul-left-comm (u * d) (failing mayFail ps - 1) x
-          ∙ ap₂ (λ (k z : ℕ). (k - 1) * z) (sym (zero-add (failing mayFail ps))) (sym scale))
+          (mul-left-comm (u * d) (howMany mayFail ps - 1) x
+          ∙ ap₂ (λ (k z : ℕ). (k - 1) * z) (sym (zero-add (howMany mayFail ps))) (sym scale))
           (omega (arith, ap (λ (z : ℕ). foldOver u (map f ps) W′ * z) scale))
           (omega (arith, ap (λ (z : ℕ). u * z) parts))
           (near-scale (u * d) (later W′ (λ bs. X (false ∷ bs)) kept))

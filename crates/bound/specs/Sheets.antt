@@ -21,7 +21,7 @@ pub record Row : Type 0 where
   pub halves : ℕ
   pub live : ℕ
 
--- document 01's printed sheet: two buffers at a half, and an AND that never flips
+-- document 01's printed sheet, chances in halves: two buffers at one half, and an AND that never flips
 abbrev pub printed : Netlist
 printed = record { inputs = 2; gates = buffer 0 1 1 ∷ buffer 1 1 1 ∷ stillAnd 2 3 ∷ []; outputs = 4 ∷ [] }
 

@@ -17,34 +17,40 @@ use Rattle.bound.specs.Sharp.{errorHalves, KindsHonest}
 abbrev pub denominator : ℕ → Netlist → ℕ
 denominator d net = d ^ length (net .gates)
 
--- the reliability of a pattern is at most 1.5 units for each live gate away from u times the exact sum
+-- so many units are at most so many half units away from u times the exact sum under q: all of it times the exact sum's denominator
+abbrev pub NearExact : ℕ → ℕ → ℕ → Netlist → ℕ → ℕ → Type 0
+NearExact halves u d net q units = Near (halves * denominator d net) (2 * (units * denominator d net)) (2 * (u * exactSum d net q))
+
+-- and from u times the exact average: times the sum of weights too
+abbrev pub NearAverage : ℕ → ℕ → ℕ → Netlist → List ℕ → ℕ → Type 0
+NearAverage halves u d net weights units =
+    Near
+    (halves * totalWeight net weights * denominator d net)
+    (2 * (units * totalWeight net weights * denominator d net))
+    (2 * (u * exactAverageSum d net weights))
+
+-- the reliability under a pattern: 1.5 units for each live gate
 abbrev pub ReliabilityBound : Type 0
 ReliabilityBound =
     (u d : ℕ) → 0 < u → 0 < d → (net : Netlist) → WellFormed d net → SingleReaders net → (q : ℕ)
-    → Near (3 * liveGates net * denominator d net) (2 * (reliability u d net q * denominator d net)) (2 * (u * exactSum d net q))
+    → NearExact (3 * liveGates net) u d net q (reliability u d net q)
 
--- the average in units is at most half a unit more away from u times the exact average
+-- the average in units: half a unit more
 abbrev pub AverageBound : Type 0
 AverageBound =
     (u d : ℕ) → 0 < u → 0 < d → (net : Netlist) → WellFormed d net → SingleReaders net → (weights : List ℕ) → 0 < totalWeight net weights
-    → Near
-    ((3 * liveGates net + 1) * totalWeight net weights * denominator d net)
-    (2 * (averageUnits u d net weights * totalWeight net weights * denominator d net))
-    (2 * (u * exactAverageSum d net weights))
+    → NearAverage (3 * liveGates net + 1) u d net weights (averageUnits u d net weights)
 
--- document 02, card 6: the sharper error, for a pattern and for the average; it is never more than 1.5 units for each live gate
+-- document 02, card 6: the sharper error, for a pattern and for the average
 abbrev pub SharpBound : Type 0
 SharpBound =
     (u d : ℕ) → 0 < u → 0 < d → (net : Netlist) → WellFormed d net → SingleReaders net → KindsHonest net → (q : ℕ)
-    → Near (errorHalves net * denominator d net) (2 * (reliability u d net q * denominator d net)) (2 * (u * exactSum d net q))
+    → NearExact (errorHalves net) u d net q (reliability u d net q)
 
 abbrev pub SharpAverage : Type 0
 SharpAverage =
     (u d : ℕ) → 0 < u → 0 < d → (net : Netlist) → WellFormed d net → SingleReaders net → KindsHonest net → (weights : List ℕ) → 0 < totalWeight net weights
-    → Near
-    ((errorHalves net + 1) * totalWeight net weights * denominator d net)
-    (2 * (averageUnits u d net weights * totalWeight net weights * denominator d net))
-    (2 * (u * exactAverageSum d net weights))
+    → NearAverage (errorHalves net + 1) u d net weights (averageUnits u d net weights)
 
 -- where it is 0 every figure is exact
 abbrev pub ZeroExact : Type 0
@@ -52,5 +58,6 @@ ZeroExact =
     (u d : ℕ) → 0 < u → 0 < d → (net : Netlist) → WellFormed d net → SingleReaders net → KindsHonest net → errorHalves net ≡ 0 → (q : ℕ)
     → reliability u d net q * denominator d net ≡ u * exactSum d net q
 
+-- and it is never more than 1.5 units for each live gate
 abbrev pub NeverWider : Type 0
 NeverWider = (d : ℕ) (net : Netlist) → WellFormed d net → SingleReaders net → errorHalves net ≤ 3 * liveGates net

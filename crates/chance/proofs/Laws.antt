@@ -4,7 +4,7 @@ use mathlib.Core.Path.{_≡_, refl, sym, ap, _∙_}
 use mathlib.Core.Bool.{Bool, true, false, cond, _&&_, false≢true}
 use mathlib.Core.List.{List}
 use native.Mathlib.Nat.{le-trans, le-of-eq, add-le-add, eq-of-mul-eq-mul-right, mul-assoc, mul-left-comm, mul-pos, mul-comm, mul-le-mul, mul-le-mul-right}
-use native.Mathlib.Nat.{zero-mul, div-le-of-le-mul}
+use native.Mathlib.Nat.{div-le-of-le-mul}
 use native.Mathlib.Omega.{arith}
 use lib.Dec.{T, lit≤}
 use lib.Ieee.{Float, nan, inf, fin, binary32, binary64, fits, ofBits}
@@ -12,8 +12,8 @@ use lib.Ieee.Digits.{Equals}
 use lib.Ieee.Bits.{ofBits-fits}
 use lib.Ieee.Positive.{num, den, den-pos}
 use lib.Pow.{pow-add}
-use Rattle.rounding.specs.Rounding.{unitsInOne, roundDiv, toUnits}
-use Rattle.rounding.proofs.Laws.{at-most, exact}
+use Rattle.rounding.specs.Rounding.{unitsInOne, toUnits}
+use Rattle.rounding.proofs.Laws.{at-most}
 use Rattle.chance.specs.declared.Flip.{Flip}
 use Rattle.chance.specs.declared.Flip.the-variants.{Never, Plain, Strike as Struck}
 use Rattle.chance.specs.declared.FlipRead.the-variants.{Accepted, Refused}
@@ -138,11 +138,6 @@ units-at-most flip h = to-units-at-most (chanceOf flip) (chance-at-most flip h)
 pub flip-units-at-most : (kind : ℕ) (field : List ℕ) → flipAccepted kind field ≡ true → flipUnits kind field ≤ unitsInOne
 unfolding flipUnits
 flip-units-at-most kind field h = to-units-at-most (flipChance kind field) (flip-chance-at-most kind field h)
-
--- and no chance is no unit
-pub no-units : toUnits unitsInOne chanceScale 0 ≡ 0
-unfolding toUnits
-no-units = ap (λ (z : ℕ). roundDiv z chanceScale) (sym (zero-mul chanceScale)) ∙ exact 0 chanceScale scale-pos
 
 -- ---- the chance is the IEEE value
 

@@ -3,7 +3,7 @@ use Prim.Native.Nat.{ℕ, _+_, _-_, _*_, _/_, _%_, _≤_, _<_, compare, Ordering
 use mathlib.Core.Bool.{Bool, true, false, cond, false≢true}
 use mathlib.Core.Logic.{by-cases}
 use mathlib.Core.Path.{_≡_, refl, sym, ap, subst, _∙_}
-use native.Mathlib.Nat.{div-add-mod', mod-lt, div-eq-of-lt-le, le-of-mul-le-mul-right, le-antisymm, mul-le-mul-right, mul-zero, sub-zero, add-zero}
+use native.Mathlib.Nat.{div-add-mod', mod-lt, div-eq-of-lt-le, le-of-mul-le-mul-right, le-antisymm, mul-le-mul-right, mul-zero, zero-mul, sub-zero, add-zero}
 use native.Mathlib.Nat.{lt-of-mul-lt-mul-right, sub-add-cancel}
 use native.Mathlib.Decide.{decLe}
 use native.Mathlib.Omega.{arith}
@@ -11,7 +11,7 @@ use borrow.Author.Tests.{ltb-true, ltb-false, le-leb, lt-leb, eq-eqb, ne-eqb}
 use lib.Dec.{ltb, isLe, isEq}
 use lib.Ieee.{nearest}
 use lib.Ieee.Nearest.{closest, closest-same}
-use Rattle.rounding.specs.Rounding.{Near, HalfEven, nextTo, roundDiv, blend}
+use Rattle.rounding.specs.Rounding.{Near, HalfEven, nextTo, roundDiv, toUnits, blend}
 
 -- whatever holds of the number next to q + r / d in each of its cases holds of it
 next-to : (P : ℕ → Type 0) (q r d : ℕ)
@@ -132,6 +132,11 @@ same-fraction a b c d B D e = sym (as-ieee a b) ∙ closest-same a b c d B D e �
 -- an exact multiple is exact
 pub exact : (q d : ℕ) → 0 < d → roundDiv (q * d) d ≡ q
 exact q d pos = le-antisymm (at-most (q * d) d pos q (omega arith)) (at-least (q * d) d pos q (omega arith))
+
+-- no chance is no unit
+pub no-units : (u d : ℕ) → 0 < d → toUnits u d 0 ≡ 0
+unfolding toUnits
+no-units u d pos = ap (λ (z : ℕ). roundDiv z d) (zero-mul u ∙ sym (zero-mul d)) ∙ exact 0 d pos
 
 -- a share of 0 keeps the right value
 pub blend-none : (u r w : ℕ) → 0 < u → blend u r w 0 ≡ r

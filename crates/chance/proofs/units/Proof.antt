@@ -7,7 +7,8 @@ use Rattle.rounding.specs.Rounding.{unitsInOne, toUnits}
 use Rattle.chance.specs.declared.Flip.{Flip}
 use Rattle.chance.specs.Number.{chanceScale}
 use Rattle.chance.specs.Flip.{inRange, chanceOf}
-use Rattle.chance.proofs.Laws.{no-units}
+use Rattle.rounding.proofs.Laws.{no-units}
+use Rattle.chance.proofs.Exact.{scale-pos}
 use Rattle.chance.proofs.units.Statement.{statement}
 use Rattle.chance.proofs.units.Tie as tie
 
@@ -23,7 +24,7 @@ strike-units-requires c κs = subst (λ (f : Flip). inRange f ≡ true) (c .befo
 
 returns : tie.Need-returns
 unfolding chanceOf
-returns c = sym (ap inUnits (c .enum-told .given .1) ∙ no-units)
+returns c = sym (ap inUnits (c .enum-told .given .1) ∙ no-units unitsInOne chanceScale scale-pos)
 
 returns-2 : tie.Need-returns-2
 unfolding chanceOf
