@@ -1,5 +1,5 @@
 /*
- * The soft-error bench for C: eight calls on a work area of 32-bit words, and one that reads BLIF.
+ * The soft-error bench for C: nine calls on a work area of 32-bit words, and one that reads BLIF.
  *
  * Link with target/staticlib/libbench_c.a, which `rt staticlib bench_c` writes (x86-64). Every
  * function below is proved to do what its contract in crates/bench_c/src/lib.rt says, for all
@@ -63,8 +63,8 @@
  *
  * With n inputs, source i below n is input i, and source n + j is gate j. Bit r of the truth table is
  * the gate's answer where r is the sum of 2^i over the used pins i that are 1: 8 is AND of two pins, 1
- * an inverter. bench_set_flip explains flip kind and field. bench_read_blif makes images from BLIF, and
- * a tool in rust/ makes them from a text with flips.
+ * an inverter. bench_set_flip explains flip kind and field. bench_read_blif makes images from BLIF, a
+ * tool in rust/ makes them from a text with flips, and bench_write_image from an area.
  *
  *
  * ANSWERS
@@ -100,7 +100,8 @@
  *     18   the text has more than 32768 bytes; else a line of it does not fit  0; line
  *     19   the text's model: counts that no image has, a name with two
  *          definitions or with none, gates in a loop                           line
- *     20   the slice for the image is shorter than the image                   0
+ *     20   the slice for the text's image is shorter than the image            0
+ *     21   the slice for the area's image is shorter than the image            0
  *
  * Where a place is a position in a list, it is the lowest one that is wrong.
  *
@@ -132,7 +133,7 @@ extern "C" {
 #endif
 
 /* Raised with every change to a function, a number, a layout or a figure that this file speaks of. */
-#define BENCH_VERSION 5
+#define BENCH_VERSION 6
 
 #define BENCH_ONE UINT32_C(1073741824)
 #define BENCH_INPUTS_MAX 12
@@ -146,6 +147,8 @@ extern "C" {
 #define BENCH_BLIF_IMAGE_MAX 20624
 #define BENCH_WORDS(gates, outputs) (8 + 8 * (size_t)(gates) + (size_t)(outputs))
 #define BENCH_WORDS_MAX BENCH_WORDS(BENCH_GATES_MAX, BENCH_OUTPUTS_MAX)
+#define BENCH_WRITTEN(gates, outputs) (20 * (size_t)(gates) + 2 * (size_t)(outputs) + 16)
+#define BENCH_WRITTEN_MAX BENCH_WRITTEN(BENCH_GATES_MAX, BENCH_OUTPUTS_MAX)
 #define BENCH_FLIP_SUM(area) ((area)[5] | (uint64_t)(area)[6] << 32)
 
 #define BENCH_FLIP_NEVER 0
@@ -175,6 +178,7 @@ extern "C" {
 #define BENCH_REFUSED_TEXT_LINE 18
 #define BENCH_REFUSED_TEXT_MODEL 19
 #define BENCH_REFUSED_SHORT_IMAGE 20
+#define BENCH_REFUSED_SHORT_WRITTEN 21
 
 /*
  * Opens a netlist image in the area, with pattern 0 and every figure worked out. What the area held
@@ -282,6 +286,25 @@ uint64_t bench_counts_by_flip(const uint32_t *area, size_t area_len, const uint3
  */
 uint64_t bench_counts_by_mask(const uint32_t *area, size_t area_len, const uint32_t *patterns, size_t patterns_len,
                               uint32_t *counts, size_t counts_len);
+
+/*
+ * Writes the image of the netlist that the area holds: an empty heading; for a gate whose flip is 0
+ * units BENCH_FLIP_NEVER with the field 0, for every other BENCH_FLIP_CHANCE with the double that is
+ * exactly units / 2^30. The pattern, the reliability and the failures are not written.
+ *
+ * Two areas that 14 does not refuse give the same bytes exactly if their counts, pin counts, tables,
+ * pins, flip units and outputs are the same, whatever images they came from. bench_open accepts the
+ * image wherever the area has room and its netlist has no shared gate, so always where the area came
+ * from bench_open. It then holds what the first area holds once its pattern is 0 and every figure is
+ * worked out. An area that these calls have left is led there by bench_toggle_input on each input that
+ * is 1, in any order. Written from there, the bytes are the same again.
+ *
+ * Done: *bytes is the image's length, BENCH_WRITTEN(gates, outputs), at most BENCH_WRITTEN_MAX, and that
+ * many bytes of image are the image. The bytes past it are as before. The area is only read.
+ *
+ * Refused, in this order: 13 and 14 of the area; 21 where image_len is less than the image's length.
+ */
+uint64_t bench_write_image(const uint32_t *area, size_t area_len, uint8_t *image, size_t image_len, uint32_t *bytes);
 
 /*
  * Reads a text in the Berkeley Logic Interchange Format (BLIF) and writes its image: an empty heading,

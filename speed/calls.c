@@ -1,8 +1,9 @@
-/* Times the calls of the proved library beside the same steps written in C, on the same netlists in one run: open, toggle_input, set_flip, the two reads,
+/* Times the calls of the proved library beside the same steps in C, on the same netlists in one run: open, toggle_input, set_flip, the two reads, write_image,
    average, counts_by_flip and counts_by_mask on forests of 2-, 3- and 4-pin gates, a chain, a forest whose gates are mostly dead, 64 narrow trees of three
    inputs each and one balanced tree; 12 inputs, 1,024 gates, and 4,096 random patterns for the counts. Average stands beside the faster of two walks in C, over
    every gate and in Gray order, and beside its own walk in C (rows). Build and run: speed/run-calls.
-   The C steps make the same checks as the library: refusals 1 to 9 and 13 at opening, 13 and 14 on every other call, 15 to 17 before counting. */
+   The C steps make the same checks as the library: refusals 1 to 9 and 13 at opening, 13 and 14 on every other call, 15 to 17 before counting, 21 before
+   writing. */
 #include "netlists.h"
 
 #define U 1073741824ull
@@ -181,6 +182,31 @@ __attribute__((noinline)) static uint64_t c_open(uint32_t *a, size_t len, const 
     c_store_sum(a, sum);
     a[4] = c_reliability(a);
     *live = count;
+    return 0;
+}
+
+static void store16(uint8_t *p, uint32_t x) { uint16_t low = (uint16_t)x; memcpy(p, &low, 2); } /* one store: of two bytes gcc makes two */
+static void store32(uint8_t *p, uint32_t x) { store16(p, x), store16(p + 2, x >> 16); }
+
+/* 0.0 has eight zero bytes, so the field needs no case of its own */
+__attribute__((noinline)) static uint64_t c_write(const uint32_t *a, size_t len, uint8_t *im, size_t room, uint32_t *bytes) {
+    int no = c_judge(a, len);
+    if (no) return (uint64_t)no << 32;
+    uint32_t g = a[1], k = a[2], back = 20 * g + 2 * k;
+    if (room < back + 16) return 21ull << 32;
+    for (uint32_t j = 0; j < g; j++) {
+        const uint32_t *w = a + 8 + 8 * j;
+        uint8_t *r = im + 20 * j;
+        double chance = w[6] / 1073741824.0;
+        r[0] = (uint8_t)w[0], r[1] = w[6] != 0;
+        store16(r + 2, w[1]);
+        for (int i = 0; i < 4; i++) store16(r + 4 + 2 * i, w[2 + i]);
+        memcpy(r + 12, &chance, 8);
+    }
+    for (uint32_t i = 0; i < k; i++) store16(im + 20 * g + 2 * i, a[8 + 8 * g + i]);
+    uint8_t *t = im + back;
+    store16(t, a[0]), store16(t + 2, g), store16(t + 4, k), store16(t + 6, 1), store32(t + 8, back), store32(t + 12, back + 16);
+    *bytes = back + 16;
     return 0;
 }
 
@@ -501,6 +527,7 @@ __attribute__((noinline)) static uint64_t c_read_gate(const uint32_t *a, size_t 
 }
 
 static uint32_t mine[WORDS], theirs[WORDS], weights[4096], listed[4096], my_counts[G], their_counts[G];
+static uint8_t my_image[BENCH_WRITTEN_MAX], their_image[BENCH_WRITTEN_MAX];
 
 static void same(const char *what) {
     if (memcmp(mine, theirs, sizeof mine)) { printf("%s: the areas differ\n", what); exit(1); }
@@ -544,11 +571,23 @@ static void time_reads(double best[4]) {
     }
 }
 
+/* The best times of writing, library and C after each other. */
+static void time_writing(double best[2]) {
+    uint32_t bytes = 0, bytes2 = 1;
+    best[0] = best[1] = 1e18;
+    for (int t = 0; t < 60; t++) {
+        memset(my_image, 1, sizeof my_image), memset(their_image, 2, sizeof their_image);
+        TIME(best[0], 24, bench_write_image(mine, WORDS, my_image, BENCH_WRITTEN_MAX, &bytes));
+        TIME(best[1], 24, c_write(mine, WORDS, their_image, BENCH_WRITTEN_MAX, &bytes2));
+        if (bytes != bytes2 || memcmp(my_image, their_image, bytes)) { printf("the images differ\n"); exit(1); }
+    }
+}
+
 /* a row: call, netlist, the library's best time and C's, in ns */
 static void tell(const char *call, int kind, double here, double c) { printf("%s\t%s\t%.0f\t%.0f\n", call, kinds[kind], here, c); }
 
 int main(void) {
-    double counted[4], read[4];
+    double counted[4], read[4], written[2];
     uint64_t kept = seed;
     for (int q = 0; q < 4096; q++) weights[q] = 1, listed[q] = next() % 4096;
     seed = kept; /* so that the patterns do not change the netlists */
@@ -584,11 +623,11 @@ int main(void) {
             if (units != units2) { printf("the averages differ\n"); return 1; }
             same("average");
         }
-        time_counts(counted);
-        time_reads(read);
-        tell("open", kind, o1, o2), tell("toggle_input", kind, t1, t2), tell("set_flip", kind, s1, s2), tell("average", kind, a1, a2 < a3 ? a2 : a3);
+        time_counts(counted), time_reads(read), time_writing(written);
+        tell("open", kind, o1, o2), tell("toggle_input", kind, t1, t2), tell("set_flip", kind, s1, s2);
         tell("read_netlist", kind, read[0], read[1]), tell("read_gate", kind, read[2], read[3]);
-        tell("average, same walk", kind, a1, a4);
+        tell("write_image", kind, written[0], written[1]);
+        tell("average", kind, a1, a2 < a3 ? a2 : a3), tell("average, same walk", kind, a1, a4);
         tell("counts_by_flip", kind, counted[0], counted[1]), tell("counts_by_mask", kind, counted[2], counted[3]);
     }
     return 0;

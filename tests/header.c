@@ -74,6 +74,22 @@ static void calls(void) {
     expect("BENCH_REFUSED_AREA", bench_toggle_input(area, BENCH_WORDS(3, 1), 0), BENCH_REFUSED_AREA, 0);
 }
 
+static void written(void) {
+    uint8_t image[LENGTH + 1];
+    uint32_t bytes = 7, live;
+    size_t words = BENCH_WORDS(3, 1);
+    expect("the whole image", damaged(OUTPUT, 4), 0, 0);
+    image[LENGTH] = 9;
+    expect("BENCH_REFUSED_SHORT_WRITTEN", bench_write_image(area, words, image, LENGTH - 1, &bytes), BENCH_REFUSED_SHORT_WRITTEN, 0);
+    if (bytes != 7) exit(printf("header: a refused writing changes the length to %u\n", bytes));
+    expect("writing", bench_write_image(area, words, image, LENGTH + 1, &bytes), 0, 0);
+    if (bytes != BENCH_WRITTEN(3, 1) || memcmp(image, WHOLE, LENGTH) != 0 || image[LENGTH] != 9) {
+        exit(printf("header: the image without a heading is not written as it was\n"));
+    }
+    expect("what was written", bench_open(area, words, image, bytes, &live), 0, 0);
+    if (BENCH_WRITTEN_MAX != BENCH_BLIF_IMAGE_MAX) exit(printf("header: BENCH_WRITTEN_MAX is not the longest image without a heading\n"));
+}
+
 typedef uint64_t Counts(const uint32_t *, size_t, const uint32_t *, size_t, uint32_t *, size_t);
 
 static void counts(Counts *by) {
@@ -127,6 +143,7 @@ static void texts(void) {
 int main(void) {
     images();
     calls();
+    written();
     counts(bench_counts_by_flip);
     counts(bench_counts_by_mask);
     texts();

@@ -1,4 +1,4 @@
-//! The eight C functions of include/bench.h, each behind a safe function.
+//! The ten C functions of include/bench.h, each behind a safe function.
 
 use crate::{Flip, Refusal};
 
@@ -55,6 +55,13 @@ mod c {
             patterns_len: usize,
             counts: *mut u32,
             counts_len: usize,
+        ) -> u64;
+        pub fn bench_write_image(
+            area: *const u32,
+            area_len: usize,
+            image: *mut u8,
+            image_len: usize,
+            bytes: *mut u32,
         ) -> u64;
         pub fn bench_read_blif(
             text: *const u8,
@@ -220,6 +227,26 @@ pub fn counts_by_mask(area: &[u32], patterns: &[u32], counts: &mut [u32]) -> Res
         )
     };
     answer(returned, ())
+}
+
+/// Writes the image of the netlist that the area holds over the first bytes of `image`, and returns its
+/// length, [`written`](crate::written) of the counts; the bytes past it stay as they are. The heading is
+/// empty, and a flip of 0 units is [`Flip::Never`], any other the chance that is exactly units / 2^30.
+/// Pattern, reliability and failures are not written.
+///
+/// So two areas give the same bytes exactly if their counts, pin counts, tables, pins, flip units and
+/// outputs are the same, whatever images they came from. From an area that [`open`] filled, [`open`]
+/// accepts the image in any area with room, which then holds what the first one holds once every input
+/// that is 1 is toggled; written from there the bytes are the same again.
+///
+/// Refused in this order: 13, 14, then 21 for a slice shorter than the image.
+pub fn write_image(area: &[u32], image: &mut [u8]) -> Result<u32, Refusal> {
+    let mut bytes = 0;
+    // SAFETY: both slices go with their own lengths, and `bytes` outlives the call.
+    let returned = unsafe {
+        c::bench_write_image(area.as_ptr(), area.len(), image.as_mut_ptr(), image.len(), &mut bytes)
+    };
+    answer(returned, bytes)
 }
 
 /// Reads a text in the Berkeley Logic Interchange Format, of at most [`MAX_TEXT`](crate::MAX_TEXT)

@@ -1,4 +1,4 @@
-//! The proved soft-error bench for Rust: eight calls on a work area that the caller owns, one that makes
+//! The proved soft-error bench for Rust: nine calls on a work area that the caller owns, one that makes
 //! a netlist image from BLIF, and images made from text.
 //!
 //! Every call answers a [`Result`]: its result, or a [`Refusal`] with the number and place that
@@ -59,6 +59,25 @@
 //! # Ok::<(), Box<dyn std::error::Error>>(())
 //! ```
 //!
+//! Two suppliers send one netlist with other headings and other flip kinds. Written from the areas they
+//! are the same bytes:
+//!
+//! ```
+//! use filzaod::{open, text, words, write_image, written};
+//!
+//! let write = |flip: &str| -> Result<Vec<u8>, Box<dyn std::error::Error>> {
+//!     let module = text::read(&format!("inputs 1\ngate only 1 pins 0 {flip}\noutput only"))?;
+//!     let mut area = vec![0; words(1, 1)];
+//!     open(&mut area, &module.image)?;
+//!     let mut image = vec![0; written(1, 1)];
+//!     assert_eq!(write_image(&area, &mut image)?, 38);
+//!     Ok(image)
+//! };
+//! assert_eq!(write("chance 0.125")?, write("strike 0.25 0.5")?);
+//! assert_ne!(write("chance 0.125")?, write("never")?);
+//! # Ok::<(), Box<dyn std::error::Error>>(())
+//! ```
+//!
 //! A netlist that a synthesis tool wrote as BLIF has no flips until they are set:
 //!
 //! ```
@@ -83,7 +102,7 @@ mod image;
 mod refusal;
 pub mod text;
 
-pub use calls::{average, counts_by_flip, counts_by_mask, read_blif};
+pub use calls::{average, counts_by_flip, counts_by_mask, read_blif, write_image};
 pub use calls::{open, read_gate, read_netlist, set_flip, toggle_input};
 pub use calls::{GateReading, NetlistReading};
 pub use flip::Flip;
@@ -109,6 +128,14 @@ pub const MAX_TEXT: usize = 32_768;
 pub const MAX_BLIF_IMAGE: usize = 20_624;
 /// Words of an area that is long enough for every netlist.
 pub const MAX_WORDS: usize = words(MAX_GATES, MAX_OUTPUTS);
+
+/// The most bytes of an image that [`write_image`] writes.
+pub const MAX_WRITTEN: usize = written(MAX_GATES, MAX_OUTPUTS);
+
+/// How many bytes of an image [`write_image`] writes for a netlist with these counts.
+pub const fn written(gates: usize, outputs: usize) -> usize {
+    20 * gates + 2 * outputs + 16
+}
 
 /// How many words of an area a netlist with these counts takes.
 pub const fn words(gates: usize, outputs: usize) -> usize {

@@ -42,7 +42,8 @@ impl fmt::Display for Refusal {
             18 if *place == 0 => write!(f, "the text has more than 32,768 bytes"),
             18 => write!(f, "line {place} does not fit"),
             19 => write!(f, "line {place}: a count, a name defined twice or undefined, or a loop"),
-            20 => write!(f, "there is no room for the image"),
+            20 => write!(f, "there is no room for the text's image"),
+            21 => write!(f, "there is no room for the area's image"),
             _ => write!(f, "unknown to this package"),
         }
     }

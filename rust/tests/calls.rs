@@ -1,6 +1,6 @@
-//! The nine calls through the safe functions: what they answer, and that a refused one changes nothing.
+//! The ten calls through the safe functions: what they answer, and that a refused one changes nothing.
 
-use filzaod::{average, counts_by_flip, counts_by_mask, read_blif};
+use filzaod::{average, counts_by_flip, counts_by_mask, read_blif, write_image, written};
 use filzaod::{open, read_gate, read_netlist, set_flip, text, toggle_input, words};
 use filzaod::{Flip, GateReading, Refusal, MAX_LISTED, MAX_WEIGHT, MAX_WORDS, ONE};
 
@@ -190,15 +190,50 @@ fn refused_images_have_number_and_place() {
 
 #[test]
 fn every_refusal_can_be_read() {
-    for number in 1..=20 {
+    for number in 1..=21 {
         let said = Refusal { number, place: 77 }.to_string();
         assert!(said.starts_with(&format!("refused {number} 77: ")), "{said}");
         assert!(said.len() > 20 && !said.contains("unknown"), "{said}");
         let named = matches!(number, 5..=11 | 16 | 18 | 19);
         assert_eq!(said.matches("77").count(), if named { 2 } else { 1 }, "{said}");
     }
-    let later = Refusal { number: 21, place: 0 };
-    assert_eq!(later.to_string(), "refused 21 0: unknown to this package");
+    let later = Refusal { number: 22, place: 0 };
+    assert_eq!(later.to_string(), "refused 22 0: unknown to this package");
+}
+
+/// That writing is refused so, and changes no byte.
+fn write_refused(area: &[u32], number: u8, room: usize) {
+    let mut image = vec![0xAB; room];
+    assert_eq!(write_image(area, &mut image), Err(Refusal { number, place: 0 }));
+    assert_eq!(image, vec![0xAB; room]);
+}
+
+#[test]
+fn an_area_becomes_an_image() {
+    const BYTES: usize = written(3, 1);
+    let mut area = opened();
+    let mut image = [0xAB; BYTES + 2];
+    assert_eq!(write_image(&area, &mut image), Ok(BYTES as u32));
+    // The text's image has no heading, and flips of kinds 0 and 1: it is written as it was.
+    assert_eq!(image[..BYTES], printed_sheet());
+    assert_eq!(image[BYTES..], [0xAB; 2]);
+    assert_eq!(area, opened());
+    // The pattern is not written, and a strike is written as its chance.
+    toggle_input(&mut area, 1).expect("input 1");
+    let strike = Flip::Strike { chance: 1.0, window: 0.5 };
+    set_flip(&mut area, 0, strike).expect("gate 0");
+    let mut again = [0; BYTES];
+    assert_eq!(write_image(&area, &mut again), Ok(BYTES as u32));
+    assert_eq!(again, image[..BYTES]);
+    let mut other = [UNTOUCHED; WORDS + 1];
+    assert_eq!(open(&mut other, &again), Ok(3));
+    toggle_input(&mut area, 1).expect("input 1");
+    assert_eq!(area, other);
+    write_refused(&area, 21, BYTES - 1);
+    write_refused(&area, 21, 0);
+    write_refused(&area[..WORDS - 1], 13, 0);
+    area[7] = 1;
+    write_refused(&area, 14, 0);
 }
 
 #[test]

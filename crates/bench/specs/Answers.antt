@@ -21,6 +21,8 @@ use Rattle.bench.specs.declared.GateRead.{GateRead}
 use Rattle.bench.specs.declared.GateRead.the-variants.{Done as GateDone, Refused as GateRefused}
 use Rattle.bench.specs.declared.Counted.{Counted}
 use Rattle.bench.specs.declared.Counted.the-variants.{Done as CountDone, Refused as CountRefused}
+use Rattle.bench.specs.declared.ImageWritten.{ImageWritten}
+use Rattle.bench.specs.declared.ImageWritten.the-variants.{Done as WriteDone, Refused as WriteRefused}
 
 -- the number of live gates
 abbrev pub opened : Judgement → ℕ → Opened
@@ -49,6 +51,11 @@ gateRead (Refused number place) right failure = GateRefused number place
 abbrev pub counted : Judgement → Counted
 counted Fine = CountDone
 counted (Refused number place) = CountRefused number place
+
+-- the image's length
+abbrev pub imageWritten : Judgement → ℕ → ImageWritten
+imageWritten Fine long = WriteDone long
+imageWritten (Refused number place) long = WriteRefused number place
 
 -- pattern and units, with the f64 whose value is exactly units / U
 abbrev pub NetlistAnswer : Judgement → ℕ → ℕ → NetlistRead → Type 0

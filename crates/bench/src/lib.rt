@@ -11,10 +11,12 @@ ghost use Rattle.area.specs.Layout as layout;
 ghost use Rattle.area.specs.Layout.{headWords, gates, outputs, needed, pattern, reliabilityWord, figure};
 ghost use Rattle.area.specs.Rules.{wordsJudgement, areaJudgement, NetSound, Workable};
 ghost use Rattle.calls.specs.Judgements as judged;
-ghost use Rattle.calls.specs.Judgements.{open-image, toggle-input, set-flip, read-netlist, read-gate, take-average, count-seen, judgement};
+ghost use Rattle.calls.specs.Judgements.{open-image, toggle-input, set-flip, read-netlist, read-gate, take-average, count-seen, write-image, judgement};
 ghost use Rattle.calls.specs.Calls.{openLive, averageOf, left, countsLeft};
+ghost use Rattle.written.specs.Image.{areaImageLength};
+ghost use Rattle.written.specs.Call.{imageLeft};
 ghost use Rattle.bench.specs.Loaded.{roomOf, loadedJudgement, loadedWords};
-ghost use Rattle.bench.specs.Answers.{opened, toggled, flipSet, gateRead, averaged, counted, NetlistAnswer};
+ghost use Rattle.bench.specs.Answers.{opened, toggled, flipSet, gateRead, averaged, counted, imageWritten, NetlistAnswer};
 use chance::FlipUnits;
 use netlist::Method;
 use refusal::Judgement;
@@ -56,6 +58,11 @@ pub enum GateRead {
 
 pub enum Counted {
     Done,
+    Refused(u8, u32),
+}
+
+pub enum ImageWritten {
+    Done(u32),
     Refused(u8, u32),
 }
 
@@ -356,4 +363,18 @@ pub fn counts_by_mask(area: &[u32], patterns: &[u32], counts: &mut [u32]) -> Cou
     ensures { λ _. ⌜ now (counts .exit) ≡ countsLeft (now (area .entry)) Method.Mask (now (patterns .entry)) (now (counts .entry)) ⌝ }
 {
     count_seen(area, patterns, counts, Method::Mask)
+}
+
+// Writes the image of the area over the first bytes of a slice, bytes past it as they were, and answers its length. The area is only read.
+pub fn write_image(area: &[u32], image: &mut [u8]) -> ImageWritten
+    ensures { λ r. ⌜ r ≡ imageWritten (judgement (now (area .entry)) (write-image (length (now (image .entry))))) (areaImageLength (now (area .entry))) ⌝ }
+    ensures { λ _. ⌜ now (image .exit) ≡ imageLeft (now (area .entry)) (now (image .entry)) ⌝ }
+{
+    match written::judge_write(area, image.len()) {
+        Judgement::Fine => {
+            written::write_image(area, image);
+            ImageWritten::Done(written::image_length(area) as u32)
+        }
+        Judgement::Refused(number, place) => ImageWritten::Refused(number, place),
+    }
 }

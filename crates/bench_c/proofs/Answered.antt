@@ -8,7 +8,7 @@ use lib.Ieee.Exact.{HasValue}
 use Rattle.rounding.specs.Rounding.{unitsInOne}
 use Rattle.refusal.specs.declared.Judgement.{Judgement}
 use Rattle.refusal.specs.declared.Judgement.the-variants.{Fine, Refused}
-use Rattle.bench.specs.Answers.{opened, toggled, flipSet, gateRead, averaged, counted, NetlistAnswer}
+use Rattle.bench.specs.Answers.{opened, toggled, flipSet, gateRead, averaged, counted, imageWritten, NetlistAnswer}
 use Rattle.bench.specs.declared.Opened.the-variants.{Done as OpenDone, Refused as OpenRefused}
 use Rattle.bench.specs.declared.Toggled.the-variants.{Done as ToggleDone, Refused as ToggleRefused}
 use Rattle.bench.specs.declared.FlipSet.the-variants.{Done as SetDone, Refused as SetRefused}
@@ -19,6 +19,7 @@ use Rattle.bench.specs.declared.GateRead.the-variants.{Done as GateDone, Refuse
 use Rattle.blif.specs.Answer.{blifRead}
 use Rattle.blif.specs.declared.BlifRead.the-variants.{Done as BlifDone, Refused as BlifRefused}
 use Rattle.bench.specs.declared.Counted.the-variants.{Done as CountDone, Refused as CountRefused}
+use Rattle.bench.specs.declared.ImageWritten.the-variants.{Done as WriteDone, Refused as WriteRefused}
 
 -- each law: what the answer done tells, then what a refused one tells
 pub toggle-told : (j : Judgement) → (toggled j ≡ ToggleDone → j ≡ Fine) × ((a p : ℕ) → toggled j ≡ ToggleRefused a p → j ≡ Refused a p)
@@ -42,6 +43,11 @@ pub average-told : (j : Judgement) (v : ℕ)
     → ((n : ℕ) → averaged j v ≡ AverageDone n → (j ≡ Fine) × (n ≡ v)) × ((a p : ℕ) → averaged j v ≡ AverageRefused a p → j ≡ Refused a p)
 average-told Fine v = (λ n e. (refl, cc), λ a p e. cc)
 average-told (Refused b q) v = (λ n e. (cc, cc), λ a p e. cc)
+
+pub write-told : (j : Judgement) (v : ℕ)
+    → ((n : ℕ) → imageWritten j v ≡ WriteDone n → (j ≡ Fine) × (n ≡ v)) × ((a p : ℕ) → imageWritten j v ≡ WriteRefused a p → j ≡ Refused a p)
+write-told Fine v = (λ n e. (refl, cc), λ a p e. cc)
+write-told (Refused b q) v = (λ n e. (cc, cc), λ a p e. cc)
 
 pub blif-told : (j : Judgement) (v : ℕ)
     → ((n : ℕ) → blifRead j v ≡ BlifDone n → (j ≡ Fine) × (n ≡ v)) × ((a p : ℕ) → blifRead j v ≡ BlifRefused a p → j ≡ Refused a p)

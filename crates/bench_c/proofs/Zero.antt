@@ -10,7 +10,7 @@ use Rattle.refusal.specs.declared.Judgement.the-variants.{Fine, Refused}
 use Rattle.refusal.proofs.Laws.{Only, only-unless, only-otherwise}
 use Rattle.area.specs.Layout.{headWords, inputs, gates, outputs}
 use Rattle.area.specs.Rules.{countsInRange, restSound, sumRight, wordsJudgement, areaJudgement}
-use Rattle.calls.specs.Judgements.{Call, open-image, toggle-input, set-flip, read-netlist, read-gate, take-average, count-seen}
+use Rattle.calls.specs.Judgements.{Call, open-image, toggle-input, set-flip, read-netlist, read-gate, take-average, count-seen, write-image}
 use Rattle.calls.specs.Judgements.{lentJudgement, judgement}
 use Rattle.calls.proofs.Judgements.{only-room, only-arguments, only-open}
 use Rattle.blif.specs.Reading.{blifRefusal}
@@ -33,7 +33,7 @@ of-area ws = only-otherwise Positive _ _ (of-words ws) (only-unless Positive (su
 
 of-lent : (ws : List ℕ) (call : Call) → Only Positive (lentJudgement ws call)
 unfolding lentJudgement
-of-lent ws call = only-otherwise Positive _ _ (of-area ws) (λ a p e. only-arguments (inputs ws) (gates ws) call a p e .0)
+of-lent ws call = only-otherwise Positive _ _ (of-area ws) (λ a p e. only-arguments (inputs ws) (gates ws) (outputs ws) call a p e .0)
 
 of-call : (ws : List ℕ) (call : Call) → Only Positive (judgement ws call)
 of-call ws (open-image bs) = λ a p e. only-open bs (length ws) a p e .0
@@ -43,6 +43,7 @@ of-call ws read-netlist = of-lent ws read-netlist
 of-call ws (read-gate g) = of-lent ws (read-gate g)
 of-call ws (take-average weights) = of-lent ws (take-average weights)
 of-call ws (count-seen method patterns slots) = of-lent ws (count-seen method patterns slots)
+of-call ws (write-image room) = of-lent ws (write-image room)
 
 positive-code : (v : Judgement) → Only Positive v → code v ≡ 0 → v ≡ Fine
 positive-code Fine only e = refl

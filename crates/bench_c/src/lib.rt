@@ -4,15 +4,18 @@ ghost use lib.ListN.{length};
 ghost use Prim.Native.Nat.{_/_, _%_};
 ghost use Rattle.refusal.specs.Judgement.{unlessRefused};
 ghost use Rattle.area.specs.Layout.{pattern as patternWord, reliabilityWord, figure};
-ghost use Rattle.calls.specs.Judgements.{open-image, toggle-input, set-flip, read-netlist, read-gate, take-average, count-seen, judgement};
+ghost use Rattle.calls.specs.Judgements.{open-image, toggle-input, set-flip, read-netlist, read-gate, take-average, count-seen, write-image, judgement};
 ghost use Rattle.calls.specs.Calls.{openLive, averageOf, left, countsLeft};
 ghost use Rattle.bench.specs.Answers.{counted};
+ghost use Rattle.written.specs.Image.{areaImageLength};
+ghost use Rattle.written.specs.Call.{imageLeft};
 ghost use Rattle.blif.specs.Reading.{textLines, modelLength, blifRefusal, blifLeft};
 ghost use Rattle.bench_c.specs.Codes.{refusalCode, code, fieldBytes, FloatBy};
 use bench::Averaged;
 use bench::Counted;
 use bench::FlipSet;
 use bench::GateRead;
+use bench::ImageWritten;
 use bench::NetlistRead;
 use bench::Opened;
 use bench::Toggled;
@@ -198,6 +201,24 @@ pub extern "C" fn bench_counts_by_mask(area: &[u32], patterns: &[u32], counts: &
     ensures { λ _. ⌜ now (counts .exit) ≡ countsLeft (now (area .entry)) Method.Mask (now (patterns .entry)) (now (counts .entry)) ⌝ }
 {
     count_code(bench::counts_by_mask(area, patterns, counts))
+}
+
+// Writes the image of the area into `image`; its length goes to `bytes`.
+#[no_mangle]
+pub extern "C" fn bench_write_image(area: &[u32], image: &mut [u8], bytes: &mut u32) -> u64
+    ensures { λ r. ⌜ r ≡ code (judgement (now (area .entry)) (write-image (length (now (image .entry))))) ⌝ }
+    ensures { λ _. ⌜ now (bytes .exit) ≡ unlessRefused (judgement (now (area .entry)) (write-image (length (now (image .entry)))))
+        (areaImageLength (now (area .entry))) (now (bytes .entry)) ⌝ }
+    ensures { λ _. ⌜ now (image .exit) ≡ imageLeft (now (area .entry)) (now (image .entry)) ⌝ }
+{
+    let answer = bench::write_image(area, image);
+    match answer {
+        ImageWritten::Done(written) => {
+            *bytes = written;
+            0
+        }
+        ImageWritten::Refused(number, place) => refused(number, place),
+    }
 }
 
 // Reads a BLIF text and writes its image; the image's length goes to `bytes`.

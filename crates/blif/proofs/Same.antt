@@ -19,7 +19,8 @@ use Rattle.covers.specs.Cover.{coverTable}
 use Rattle.meaning.specs.Net.{sourceOf, placedGate}
 use Rattle.meaning.proofs.Meaning.{entries-length}
 use Rattle.resolve.specs.Names.{sourcesIn}
-use Rattle.records.specs.Bytes.{imageOf, imageLength}
+use Rattle.image.specs.Image.{imageLength}
+use Rattle.records.specs.Bytes.{netContents, imageOf}
 use Rattle.records.proofs.Length.{image-bytes}
 use Rattle.writing.specs.Written.{tableAt, heldNet, Placeable, Ordered}
 use Rattle.writing.proofs.Pins.{gates-length, mapped-length}
@@ -78,7 +79,7 @@ module _ {t s l : List ℕ} {n : ℕ} {heads pins counts outs numbers place orde
   image-long : length (imageOf (heldNet t s l n heads pins counts outs place order inputs gates outputs)) ≡ imageLength gates outputs
   unfolding heldNet
   image-long =
-      image-bytes (heldNet t s l n heads pins counts outs place order inputs gates outputs)
+      image-bytes (netContents (heldNet t s l n heads pins counts outs place order inputs gates outputs))
       ∙ ap₂ imageLength
       (gates-length (placedGate (sourcesOf pins counts) (tableAt t s l n heads counts) inputs place) order 0 gates)
       (mapped-length (sourceOf inputs place) outs 0 outputs)

@@ -17,7 +17,8 @@ use Rattle.model.specs.Counts.{lineAt, countFault}
 use Rattle.covers.specs.Cover.{coverTable}
 use Rattle.meaning.specs.Net.{placedNet}
 use Rattle.resolve.specs.Names.{sourcesIn, sourceNumbers, namesFault}
-use Rattle.records.specs.Bytes.{imageLength, imageOf}
+use Rattle.image.specs.Image.{imageLength}
+use Rattle.records.specs.Bytes.{imageOf}
 
 -- the lines of a text that have words
 abbrev pub textLines : List ℕ → List Line

@@ -21,7 +21,8 @@ use Rattle.netlist.specs.Netlist.{inputValues}
 use Rattle.meaning.specs.Net.{sourceOf, placedGate}
 use Rattle.meaning.proofs.Meaning.{net, gate-at, count, to-source, below}
 use Rattle.resolve.specs.Names.{sourcesIn, sourceNumbers}
-use Rattle.records.specs.Bytes.{imageLength, imageOf}
+use Rattle.image.specs.Image.{imageLength}
+use Rattle.records.specs.Bytes.{netContents, imageOf}
 use Rattle.records.specs.Passes.{Holdable}
 use Rattle.records.proofs.Length.{image-bytes}
 use Rattle.records.proofs.Passes.{written-passes}
@@ -136,7 +137,7 @@ module _ (ls : List Line) (fine : modelFault ls ≡ Fine) (fit : Fitting ls) whe
 
   pub model-long : length (imageOf (modelNet ls)) ≡ modelLength ls
   model-long =
-      image-bytes (modelNet ls)
+      image-bytes (netContents (modelNet ls))
       ∙ ap₂ imageLength (ap (λ (m : Netlist). length (m .gates)) (sym (same-model ls fine)) ∙ gates-count) outputs-long
 
 -- what an accepted text has passed

@@ -56,7 +56,7 @@ module _ (size : ℕ) (ws : List ℕ) (b : Book) (agree : Agree size ws b) where
   pub same-gate-count : gates ws ≡ length (b .net .gates)
   same-gate-count = sym (gate-count ws (agree .kinds) (agree .chances)) ∙ ap (λ (held : Netlist). length (held .gates)) (agree .held)
 
-  same-output-count : outputs ws ≡ length (b .net .outputs)
+  pub same-output-count : outputs ws ≡ length (b .net .outputs)
   same-output-count = sym (output-count ws net) ∙ ap (λ (held : Netlist). length (held .outputs)) (agree .held)
 
   -- the area has room for the book's netlist

@@ -17,7 +17,7 @@ use Rattle.netlist.specs.declared.Method.the-variants.{Flip}
 use Rattle.netlist.specs.Live.{SingleReaders}
 use Rattle.netlist.specs.Seen.{seenCounts}
 use Rattle.netlist.proofs.Seen.{agreeing-counts}
-use Rattle.area.specs.Layout.{inputs, gates}
+use Rattle.area.specs.Layout.{inputs, gates, outputs}
 use Rattle.work.specs.Work.{invertBit, toggleWords, setWords}
 use Rattle.area.specs.Sum.{withSum}
 use Rattle.work.proofs.Frame.{same-gates, same-trans, same-toggle, same-set}
@@ -27,7 +27,7 @@ use Rattle.area.proofs.Net.{sound-pins, same-single-readers, same-flip-counts}
 use Rattle.fresh.proofs.Calls.{toggle-net, toggle-pattern, toggle-fresh, toggle-converted, set-net, set-pattern, set-fresh, set-converted}
 use Rattle.fresh.proofs.Calls.{same-with-sum, with-sum-net, with-sum-pattern, with-sum-fresh, with-sum-converted}
 use Rattle.fresh.proofs.Unique.{fresh-fixed}
-use Rattle.calls.specs.Judgements.{open-image, toggle-input, set-flip, read-netlist, read-gate, take-average, count-seen}
+use Rattle.calls.specs.Judgements.{open-image, toggle-input, set-flip, read-netlist, read-gate, take-average, count-seen, write-image}
 use Rattle.chance.specs.Flip.{flipUnits}
 use Rattle.calls.specs.Calls.{openWords, work}
 use Rattle.book.specs.Book.{Book, withFlip, entered, imageBook}
@@ -36,6 +36,7 @@ use Rattle.book.proofs.Shown.{Shown, Lent, shown-lent}
 use Rattle.book.proofs.Flip.{flip-net}
 use Rattle.book.proofs.Average.{average-within, average-sharp}
 use Rattle.book.proofs.Open.{opened}
+use Rattle.book.proofs.Written.{image-kept}
 use Rattle.book.specs.Statement.{AnswerKept}
 use Rattle.calls.specs.Judgements.{Call, argumentJudgement, openJudgement}
 use Rattle.calls.proofs.Judgements.{only-open, set-fine, weights-fine, toggle-fine}
@@ -75,7 +76,10 @@ toggled i size ws b agree l =
 pub shown-toggle : (i : ℕ) → Shown (toggle-input i)
 shown-toggle i =
     shown-lent (toggle-input i) (λ ws. refl) (λ b size. refl)
-    (record { agrees = λ size ws b agree e. toggled i size ws b agree (toggle-fine (inputs ws) (gates ws) i e); answers = λ size ws b agree e. tt })
+    (record {
+      agrees = λ size ws b agree e. toggled i size ws b agree (toggle-fine (inputs ws) (gates ws) (outputs ws) i e);
+      answers = λ size ws b agree e. tt;
+    })
 
 -- ---- setting a flip
 
@@ -141,7 +145,7 @@ shown-set g kind field =
     (record {
       agrees =
           λ size ws b agree e.
-          let both = set-fine (inputs ws) (gates ws) g kind field e in
+          let both = set-fine (inputs ws) (gates ws) (outputs ws) g kind field e in
           flip-set g kind field size ws b agree (both .0) (both .1);
       answers = λ size ws b agree e. tt;
     })
@@ -176,6 +180,9 @@ counted method patterns size ws b agree =
 pub shown-counts : (method : Method) (patterns : List ℕ) (slots : ℕ) → Shown (count-seen method patterns slots)
 shown-counts method patterns slots =
     shown-lent (count-seen method patterns slots) (λ ws. refl) (λ b size. refl) (untouched (λ ws b. (refl, refl)) (counted method patterns))
+
+pub shown-write : (room : ℕ) → Shown (write-image room)
+shown-write room = shown-lent (write-image room) (λ ws. refl) (λ b size. refl) (untouched (λ ws b. (refl, refl)) image-kept)
 
 -- ---- the average: the figure words were worked out before it, and are again
 

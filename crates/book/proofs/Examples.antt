@@ -18,7 +18,7 @@ use Rattle.image.specs.Refusals.{lengthRight, backRight, trailerRefusal, gateRe
 use Rattle.image.specs.Loading.{recordChance}
 use Rattle.live.specs.Shared.{sharedJudgement}
 use Rattle.calls.specs.Judgements.{openJudgement, weightsJudgement, countsJudgement, argumentJudgement}
-use Rattle.calls.specs.Judgements.{Call, open-image, toggle-input, set-flip, read-netlist, read-gate, take-average, count-seen}
+use Rattle.calls.specs.Judgements.{Call, open-image, toggle-input, set-flip, read-netlist, read-gate, take-average, count-seen, write-image}
 use Rattle.calls.specs.Calls.{openWords}
 use Rattle.calls.specs.Sheets.{printedImage}
 use Rattle.image.specs.Netlist.{imageNet}
@@ -55,7 +55,7 @@ unfolding openJudgement sharedJudgement readers liveReads imageNet middle
 too-short = rw not-refused refl
 
 -- what the book says of a list of calls: input 1 toggled; no input 2; gate 0 to flip never; not-a-number; no gate 3; three weights; weights 0;
--- counts of no patterns, of pattern 4 at position 1, into two entries, of pattern 3 twice; an image of no bytes
+-- counts of no patterns, of pattern 4 at position 1, into two entries, of pattern 3 twice; the image written into 77 bytes, into 78; an image of no bytes
 abbrev calls : List Call
 calls =
     toggle-input 1
@@ -70,6 +70,8 @@ calls =
     ∷ count-seen Mask (3 ∷ 4 ∷ []) 2
     ∷ count-seen Flip (3 ∷ []) 2
     ∷ count-seen Mask (3 ∷ 3 ∷ []) 3
+    ∷ write-image 77
+    ∷ write-image 78
     ∷ open-image []
     ∷ read-netlist
     ∷ []
@@ -90,6 +92,8 @@ pub said : judgements (imageBook printedImage) 33 calls
     ∷ Refused 15 0
     ∷ Refused 16 1
     ∷ Refused 17 0
+    ∷ Fine
+    ∷ Refused 21 0
     ∷ Fine
     ∷ Refused 1 0
     ∷ Fine

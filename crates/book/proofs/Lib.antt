@@ -3,6 +3,7 @@ pub mod Shown
 pub mod Flip
 pub mod Average
 pub mod Open
+pub mod Written
 pub mod Calls
 pub mod List
 pub mod Untouched

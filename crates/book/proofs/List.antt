@@ -6,14 +6,14 @@ use lib.ListN.{length}
 use Rattle.refusal.specs.declared.Judgement.{Judgement}
 use Rattle.refusal.specs.declared.Judgement.the-variants.{Fine, Refused}
 use Rattle.refusal.specs.Judgement.{unlessRefused}
-use Rattle.calls.specs.Judgements.{Call, open-image, toggle-input, set-flip, read-netlist, read-gate, take-average, count-seen}
+use Rattle.calls.specs.Judgements.{Call, open-image, toggle-input, set-flip, read-netlist, read-gate, take-average, count-seen, write-image}
 use Rattle.calls.specs.Calls.{openWords, work, left}
 use Rattle.book.specs.Book.{Book, imageBook, bookJudgement, entered, bookStep}
 use Rattle.book.specs.Statement.{CallKept, Kept, Demand3}
 use Rattle.book.proofs.Agree.{Agree, current}
 use Rattle.book.proofs.Shown.{Shown}
 use Rattle.book.proofs.Open.{opened}
-use Rattle.book.proofs.Calls.{shown-open, shown-toggle, shown-set, shown-read, shown-read-gate, shown-average, shown-counts}
+use Rattle.book.proofs.Calls.{shown-open, shown-toggle, shown-set, shown-read, shown-read-gate, shown-average, shown-counts, shown-write}
 
 -- every call of the list
 pub shown : (call : Call) → Shown call
@@ -24,6 +24,7 @@ shown read-netlist = shown-read
 shown (read-gate g) = shown-read-gate g
 shown (take-average weights) = shown-average weights
 shown (count-seen method patterns slots) = shown-counts method patterns slots
+shown (write-image room) = shown-write room
 
 module _ (size : ℕ) (ws : List ℕ) (b : Book) (call : Call) (agree : Agree size ws b) where
   pub call-kept : CallKept size ws b call

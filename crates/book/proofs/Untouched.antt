@@ -18,7 +18,7 @@ use Rattle.image.specs.Image.{imageGates, imageOutputs}
 use Rattle.image.specs.Loading.{imageWords}
 use Rattle.image.proofs.Middle.{length-words}
 use Rattle.image.proofs.Words.{head-gates, head-outputs}
-use Rattle.calls.specs.Judgements.{Call, open-image, toggle-input, set-flip, read-netlist, read-gate, take-average, count-seen}
+use Rattle.calls.specs.Judgements.{Call, open-image, toggle-input, set-flip, read-netlist, read-gate, take-average, count-seen, write-image}
 use Rattle.calls.specs.Judgements.{openJudgement, judgement}
 use Rattle.calls.specs.Calls.{openWords, work}
 use Rattle.calls.proofs.Judgements.{open-fine, lent-fine, set-fine}
@@ -53,13 +53,14 @@ work-untouched : (ws : List ℕ) (call : Call) → judgement ws call ≡ Fine �
 work-untouched ws (open-image bs) e = open-untouched bs ws e
 work-untouched ws (toggle-input i) e = frame-untouched ws _ (same-toggle ws i)
 work-untouched ws (set-flip g kind field) e =
-    let passed = set-fine (inputs ws) (gates ws) g kind field (lent-fine ws (set-flip g kind field) e .1) in
+    let passed = set-fine (inputs ws) (gates ws) (outputs ws) g kind field (lent-fine ws (set-flip g kind field) e .1) in
     let worked = setWords ws g (flipUnits kind field) in
     frame-untouched ws _ (same-trans ws worked (withSum worked) (same-set ws g (flipUnits kind field) (passed .0)) (same-with-sum worked))
 work-untouched ws read-netlist e = frame-untouched ws ws (same-refl ws)
 work-untouched ws (read-gate g) e = frame-untouched ws ws (same-refl ws)
 work-untouched ws (take-average weights) e = frame-untouched ws _ (same-work-all ws)
 work-untouched ws (count-seen method patterns slots) e = frame-untouched ws ws (same-refl ws)
+work-untouched ws (write-image room) e = frame-untouched ws ws (same-refl ws)
 
 pub past-untouched : PastUntouched
 past-untouched ws call = go (judgement ws call) refl

@@ -10,7 +10,7 @@ use Rattle.netlist.specs.Netlist.{Gate, Netlist, gateAt}
 use Rattle.area.specs.Rules.{roomJudgement}
 use Rattle.work.specs.Work.{invertBit}
 use Rattle.image.specs.Netlist.{imageNet}
-use Rattle.calls.specs.Judgements.{Call, open-image, toggle-input, set-flip, read-netlist, read-gate, take-average, count-seen}
+use Rattle.calls.specs.Judgements.{Call, open-image, toggle-input, set-flip, read-netlist, read-gate, take-average, count-seen, write-image}
 use Rattle.calls.specs.Judgements.{openJudgement, argumentJudgement}
 
 -- a netlist, whose gates have their flip kind and their chance before conversion, and a pattern
@@ -26,7 +26,8 @@ imageBook bs = record { net = imageNet bs; pattern = 0 }
 
 unfoldable pub heldJudgement : Book → ℕ → Call → Judgement
 heldJudgement b size call =
-    otherwise (roomJudgement (length (b .net .gates)) (length (b .net .outputs)) size) (argumentJudgement (b .net .inputs) (length (b .net .gates)) call)
+    otherwise (roomJudgement (length (b .net .gates)) (length (b .net .outputs)) size)
+    (argumentJudgement (b .net .inputs) (length (b .net .gates)) (length (b .net .outputs)) call)
 
 abbrev pub bookJudgement : Book → ℕ → Call → Judgement
 bookJudgement b size (open-image bs) = openJudgement bs size
@@ -36,6 +37,7 @@ bookJudgement b size read-netlist = heldJudgement b size read-netlist
 bookJudgement b size (read-gate g) = heldJudgement b size (read-gate g)
 bookJudgement b size (take-average weights) = heldJudgement b size (take-average weights)
 bookJudgement b size (count-seen method patterns slots) = heldJudgement b size (count-seen method patterns slots)
+bookJudgement b size (write-image room) = heldJudgement b size (write-image room)
 
 -- ---- what a call enters
 
@@ -55,6 +57,7 @@ entered b read-netlist = b
 entered b (read-gate g) = b
 entered b (take-average weights) = b
 entered b (count-seen method patterns slots) = b
+entered b (write-image room) = b
 
 -- a refused call enters nothing
 abbrev pub bookStep : Book → ℕ → Call → Book

@@ -17,10 +17,12 @@ use Rattle.area.specs.Layout.{gates, outputs, reliabilityWord, sumLowWord, sumH
 use Rattle.area.specs.Sum.{lowBits, highBits}
 use Rattle.area.specs.Net.{netOf}
 use Rattle.fresh.specs.Statements.{FiguresHeld}
-use Rattle.image.specs.Image.{imageGates, imageOutputs}
-use Rattle.calls.specs.Judgements.{Call, open-image, toggle-input, set-flip, read-netlist, read-gate, take-average, count-seen}
+use Rattle.image.specs.Image.{imageLength, imageGates, imageOutputs}
+use Rattle.calls.specs.Judgements.{Call, open-image, toggle-input, set-flip, read-netlist, read-gate, take-average, count-seen, write-image}
 use Rattle.calls.specs.Judgements.{openJudgement, judgement}
 use Rattle.calls.specs.Calls.{openWords, averageOf, left}
+use Rattle.written.specs.Image.{areaImage}
+use Rattle.written_opened.specs.Statements.{wordsOver, atPatternZero, toggledAll, ListsOnes, SameAgain}
 use Rattle.book.specs.Book.{Book, imageBook, bookJudgement, bookStep}
 
 -- so many units are within 1.5 for each live gate of U × the exact sum at the book's pattern, and so many as an average within half a unit more
@@ -50,6 +52,17 @@ pub record Current (ws : List ℕ) (b : Book) : Type 0 where
   pub figures : FiguresHeld chanceScale (b .net) (b .pattern) ws
   pub sum : SumHeld ws b
 
+-- the image that is written of an area has the length that the book's counts give. Opened in any area with room for them it is not refused, and leaves the
+-- words that this area has once turned to pattern 0; toggling the inputs that are 1 in the book's pattern, in any order, reaches these; and writing
+-- from the area opened gives the same bytes
+pub record ImageKept (ws : List ℕ) (b : Book) : Type 0 where
+  pub long : length (areaImage ws) ≡ imageLength (length (b .net .gates)) (length (b .net .outputs))
+  pub accepted : (size : ℕ) → needed (length (b .net .gates)) (length (b .net .outputs)) ≤ size → openJudgement (areaImage ws) size ≡ Fine
+  pub opened : (us : List ℕ) → needed (length (b .net .gates)) (length (b .net .outputs)) ≤ length us
+      → openWords (areaImage ws) us ≡ wordsOver (atPatternZero ws) us
+  pub turned : (is : List ℕ) → ListsOnes (b .net .inputs) (b .pattern) is → toggledAll ws is ≡ atPatternZero ws
+  pub again : (us : List ℕ) → needed (length (b .net .gates)) (length (b .net .outputs)) ≤ length us → SameAgain ws us
+
 -- what is promised of the answer of a call that is not refused, by the book at that call
 abbrev pub AnswerKept : List ℕ → Book → Call → Type 0
 AnswerKept ws b (open-image bs) = Unit {0}
@@ -60,6 +73,7 @@ AnswerKept ws b (read-gate g) = Unit {0}
 AnswerKept ws b (take-average weights) = AverageWithin (averageOf ws weights) weights b × AverageSharp (averageOf ws weights) weights b
 -- whichever the method, the counts are those of single flips on the book's netlist
 AnswerKept ws b (count-seen method patterns slots) = seenCounts method (netOf ws [] []) patterns ≡ seenCounts Flip (b .net) patterns
+AnswerKept ws b (write-image room) = ImageKept ws b
 
 -- a call is refused exactly where the book says, with that number and place, and never with 14
 pub record CallKept (size : ℕ) (ws : List ℕ) (b : Book) (call : Call) : Type 0 where
@@ -88,6 +102,7 @@ neededBy ws read-netlist = needed (gates ws) (outputs ws)
 neededBy ws (read-gate g) = needed (gates ws) (outputs ws)
 neededBy ws (take-average weights) = needed (gates ws) (outputs ws)
 neededBy ws (count-seen method patterns slots) = needed (gates ws) (outputs ws)
+neededBy ws (write-image room) = needed (gates ws) (outputs ws)
 
 -- vs has the length of ws, and its words from index k on
 pub record Untouched (k : ℕ) (ws vs : List ℕ) : Type 0 where

@@ -13,21 +13,21 @@ use Rattle.refusal.specs.Judgement.{refuseUnless, otherwise, lowest}
 use Rattle.refusal.proofs.Laws.{unless-fine, otherwise-fine, otherwise-second, otherwise-first, lowest-fine, otherwise-assoc}
 use Rattle.refusal.proofs.Laws.{Only, NotRule, only-fine, only-unless, only-otherwise, only-lowest}
 use Rattle.chance.specs.Flip.{flipAccepted}
-use Rattle.area.specs.Layout.{largestWeight, mostListed, inputs, gates, needed}
+use Rattle.area.specs.Layout.{largestWeight, mostListed, inputs, gates, outputs, needed}
 use Rattle.area.specs.Rules.{roomJudgement, areaJudgement, Sound}
 use Rattle.live.specs.Shared.{sharedJudgement}
 use Rattle.live.proofs.Shared.{only-shared}
 use Rattle.rules.proofs.Facts.{both}
 use Rattle.rules.proofs.Sound.{sound, sound-passes}
-use Rattle.image.specs.Image.{imageGates, imageOutputs}
+use Rattle.image.specs.Image.{imageLength, imageGates, imageOutputs}
 use Rattle.image.specs.Refusals.{imageRefusal}
 use Rattle.image.specs.Netlist.{imageNet}
 use Rattle.image.proofs.Numbers.{only-image}
-use Rattle.calls.specs.Judgements.{Call, open-image, toggle-input, set-flip, read-netlist, read-gate, take-average, count-seen}
-use Rattle.calls.specs.Judgements.{named, flipJudgement, weightJudgement, weightsJudgement, WeightsFit, listedJudgement, countsJudgement}
+use Rattle.calls.specs.Judgements.{Call, open-image, toggle-input, set-flip, read-netlist, read-gate, take-average, count-seen, write-image}
+use Rattle.calls.specs.Judgements.{named, flipJudgement, weightJudgement, weightsJudgement, WeightsFit, listedJudgement, countsJudgement, sliceJudgement}
 use Rattle.calls.specs.Judgements.{openJudgement, argumentJudgement, lentJudgement}
 
--- ---- 10 to 13, 15 to 17
+-- ---- 10 to 13, 15 to 17, 21
 
 pub named-fine : (x count : ℕ) → named x count ≡ Fine → x < count
 named-fine x count e = ltb-true x count (unless-fine (ltb x count) 10 x e)
@@ -68,36 +68,49 @@ counts-fine n g patterns slots e =
     let later = otherwise-fine (lowest (listedJudgement n patterns) (length patterns)) _ (first .1) in
     (leb-true _ _ (both some few (unless-fine _ 15 0 (first .0)) .1), leb-true _ _ (unless-fine _ 17 0 (later .1)))
 
+pub slice-fine : (g k room : ℕ) → sliceJudgement g k room ≡ Fine → imageLength g k ≤ room
+slice-fine g k room e = leb-true (imageLength g k) room (unless-fine (leb (imageLength g k) room) 21 0 e)
+
+pub fine-slice : (g k room : ℕ) → imageLength g k ≤ room → sliceJudgement g k room ≡ Fine
+fine-slice g k room l = rw (le-leb (imageLength g k) room l) refl
+
+pub short-slice : (g k room : ℕ) → room < imageLength g k → sliceJudgement g k room ≡ Refused 21 0
+short-slice g k room l = rw (lt-leb (imageLength g k) room l) refl
+
 -- ---- a call on an open area
 
-pub toggle-fine : (n g i : ℕ) → argumentJudgement n g (toggle-input i) ≡ Fine → i < n
+pub toggle-fine : (n g k i : ℕ) → argumentJudgement n g k (toggle-input i) ≡ Fine → i < n
 unfolding argumentJudgement
-toggle-fine n g i e = named-fine i n e
+toggle-fine n g k i e = named-fine i n e
 
-pub gate-fine : (n g x : ℕ) → argumentJudgement n g (read-gate x) ≡ Fine → x < g
+pub gate-fine : (n g k x : ℕ) → argumentJudgement n g k (read-gate x) ≡ Fine → x < g
 unfolding argumentJudgement
-gate-fine n g x e = named-fine x g e
+gate-fine n g k x e = named-fine x g e
 
-pub set-fine : (n g x kind : ℕ) (field : List ℕ) → argumentJudgement n g (set-flip x kind field) ≡ Fine → (x < g) × (flipAccepted kind field ≡ true)
+pub set-fine : (n g k x kind : ℕ) (field : List ℕ) → argumentJudgement n g k (set-flip x kind field) ≡ Fine → (x < g) × (flipAccepted kind field ≡ true)
 unfolding argumentJudgement
-set-fine n g x kind field e =
+set-fine n g k x kind field e =
     let both = otherwise-fine (named x g) (flipJudgement x kind field) e in
     (named-fine x g (both .0), unless-fine (flipAccepted kind field) 11 x (both .1))
 
-pub lent-fine : (ws : List ℕ) (call : Call) → lentJudgement ws call ≡ Fine → Sound ws × (argumentJudgement (inputs ws) (gates ws) call ≡ Fine)
+pub write-fine : (n g k room : ℕ) → argumentJudgement n g k (write-image room) ≡ Fine → imageLength g k ≤ room
+unfolding argumentJudgement
+write-fine n g k room e = slice-fine g k room e
+
+pub lent-fine : (ws : List ℕ) (call : Call) → lentJudgement ws call ≡ Fine → Sound ws × (argumentJudgement (inputs ws) (gates ws) (outputs ws) call ≡ Fine)
 unfolding lentJudgement
 lent-fine ws call e =
-    let both = otherwise-fine (areaJudgement ws) (argumentJudgement (inputs ws) (gates ws) call) e in
+    let both = otherwise-fine (areaJudgement ws) (argumentJudgement (inputs ws) (gates ws) (outputs ws) call) e in
     (sound ws (both .0), both .1)
 
 -- of a sound area the arguments decide; the refusal of another stops the call
-pub lent-sound : (ws : List ℕ) (call : Call) → Sound ws → lentJudgement ws call ≡ argumentJudgement (inputs ws) (gates ws) call
+pub lent-sound : (ws : List ℕ) (call : Call) → Sound ws → lentJudgement ws call ≡ argumentJudgement (inputs ws) (gates ws) (outputs ws) call
 unfolding lentJudgement
-lent-sound ws call s = otherwise-second (areaJudgement ws) (argumentJudgement (inputs ws) (gates ws) call) (sound-passes ws s)
+lent-sound ws call s = otherwise-second (areaJudgement ws) (argumentJudgement (inputs ws) (gates ws) (outputs ws) call) (sound-passes ws s)
 
 pub lent-stopped : (ws : List ℕ) (call : Call) (a p : ℕ) → areaJudgement ws ≡ Refused a p → lentJudgement ws call ≡ Refused a p
 unfolding lentJudgement
-lent-stopped ws call a p e = otherwise-first (areaJudgement ws) (argumentJudgement (inputs ws) (gates ws) call) a p e
+lent-stopped ws call a p e = otherwise-first (areaJudgement ws) (argumentJudgement (inputs ws) (gates ws) (outputs ws) call) a p e
 
 -- setting a flip is judged as reading the gate, and then by the flip
 pub set-after-gate : (ws : List ℕ) (x kind : ℕ) (field : List ℕ)
@@ -146,17 +159,18 @@ only-counts n g patterns slots =
 only-named : (x count : ℕ) → Only NotRule (named x count)
 only-named x count = only-unless NotRule (ltb x count) 10 x (omega arith, omega arith)
 
-pub only-arguments : (n g : ℕ) (call : Call) → Only NotRule (argumentJudgement n g call)
+pub only-arguments : (n g k : ℕ) (call : Call) → Only NotRule (argumentJudgement n g k call)
 unfolding argumentJudgement
-only-arguments n g (open-image bs) = only-fine NotRule
-only-arguments n g (toggle-input i) = only-named i n
-only-arguments n g (set-flip x kind field) =
+only-arguments n g k (open-image bs) = only-fine NotRule
+only-arguments n g k (toggle-input i) = only-named i n
+only-arguments n g k (set-flip x kind field) =
     only-otherwise NotRule (named x g) (flipJudgement x kind field) (only-named x g)
     (only-unless NotRule (flipAccepted kind field) 11 x (omega arith, omega arith))
-only-arguments n g read-netlist = only-fine NotRule
-only-arguments n g (read-gate x) = only-named x g
-only-arguments n g (take-average weights) = only-weights n weights
-only-arguments n g (count-seen method patterns slots) = only-counts n g patterns slots
+only-arguments n g k read-netlist = only-fine NotRule
+only-arguments n g k (read-gate x) = only-named x g
+only-arguments n g k (take-average weights) = only-weights n weights
+only-arguments n g k (count-seen method patterns slots) = only-counts n g patterns slots
+only-arguments n g k (write-image room) = only-unless NotRule (leb (imageLength g k) room) 21 0 (omega arith, omega arith)
 
 pub only-open : (bs : List ℕ) (size : ℕ) → Only NotRule (openJudgement bs size)
 unfolding openJudgement

@@ -16,7 +16,7 @@ use Rattle.work.specs.Work.{workAll, toggleWords, setWords}
 use Rattle.image.specs.Image.{imageGates, imageOutputs}
 use Rattle.image.specs.Loading.{imageWords}
 use Rattle.image.specs.Netlist.{imageNet}
-use Rattle.calls.specs.Judgements.{Call, open-image, toggle-input, set-flip, read-netlist, read-gate, take-average, count-seen, judgement}
+use Rattle.calls.specs.Judgements.{Call, open-image, toggle-input, set-flip, read-netlist, read-gate, take-average, count-seen, write-image, judgement}
 
 -- open: the image's words, pattern 0, every figure worked out, and the raw flip sum; words past those needed are not touched
 unfoldable pub openWords : List ℕ → List ℕ → List ℕ
@@ -44,6 +44,7 @@ work ws read-netlist = ws
 work ws (read-gate g) = ws
 work ws (take-average weights) = workAll ws
 work ws (count-seen method patterns slots) = ws
+work ws (write-image room) = ws
 
 -- the words that a call leaves
 abbrev pub left : List ℕ → Call → List ℕ

@@ -1,5 +1,5 @@
 -- A call as data, and the refusal that it gets, in document 01's order: at opening 1 to 8, then 9, then 13; elsewhere 13 and 14 of the area, then 10, 11,
--- 12; and, of document 02, card 1, 15, 16, 17.
+-- 12; and, of document 02, 15, 16, 17 of card 1 and 21 of card 7.
 use Prim.Native.Nat.{ℕ, _-_, _^_, _≤_, _<_}
 use mathlib.Core.Bool.{false, not, _&&_}
 use mathlib.Core.List.{List}
@@ -12,10 +12,10 @@ use Rattle.refusal.specs.declared.Judgement.the-variants.{Fine}
 use Rattle.refusal.specs.Judgement.{refuseUnless, otherwise, lowest, wordJudgement}
 use Rattle.chance.specs.Flip.{flipAccepted}
 use Rattle.netlist.specs.declared.Method.{Method}
-use Rattle.area.specs.Layout.{largestWeight, mostListed, inputs, gates}
+use Rattle.area.specs.Layout.{largestWeight, mostListed, inputs, gates, outputs}
 use Rattle.area.specs.Rules.{roomJudgement, areaJudgement}
 use Rattle.live.specs.Shared.{sharedJudgement}
-use Rattle.image.specs.Image.{imageGates, imageOutputs}
+use Rattle.image.specs.Image.{imageLength, imageGates, imageOutputs}
 use Rattle.image.specs.Refusals.{imageRefusal}
 use Rattle.image.specs.Netlist.{imageNet}
 
@@ -29,6 +29,8 @@ pub data Call : Type 0 where
   take-average : List ℕ → Call
   -- the method, the listed patterns, and the length of the slice that is lent for the counts
   count-seen : Method → List ℕ → ℕ → Call
+  -- the length of the slice that is lent for the image
+  write-image : ℕ → Call
 
 -- 10: a call names an input or a gate that does not exist
 abbrev pub named : ℕ → ℕ → Judgement
@@ -62,24 +64,29 @@ countsJudgement n g patterns slots =
     otherwise (refuseUnless (leb 1 (length patterns) && leb (length patterns) mostListed) 15 0)
     (otherwise (lowest (listedJudgement n patterns) (length patterns)) (refuseUnless (leb g slots) 17 0))
 
+-- 21: a slice shorter than the image of g gates and k outputs
+abbrev pub sliceJudgement : ℕ → ℕ → ℕ → Judgement
+sliceJudgement g k room = refuseUnless (leb (imageLength g k) room) 21 0
+
 -- opening an image into an area of `size` words
 unfoldable pub openJudgement : List ℕ → ℕ → Judgement
 openJudgement bs size =
     otherwise (imageRefusal bs) (otherwise (sharedJudgement (imageNet bs)) (roomJudgement (imageGates bs) (imageOutputs bs) size))
 
--- the refusals but 13 and 14 of a call on a netlist with n inputs and g gates; an image is judged by itself
-unfoldable pub argumentJudgement : ℕ → ℕ → Call → Judgement
-argumentJudgement n g (open-image bs) = Fine
-argumentJudgement n g (toggle-input i) = named i n
-argumentJudgement n g (set-flip x kind field) = otherwise (named x g) (flipJudgement x kind field)
-argumentJudgement n g read-netlist = Fine
-argumentJudgement n g (read-gate x) = named x g
-argumentJudgement n g (take-average weights) = weightsJudgement n weights
-argumentJudgement n g (count-seen method patterns slots) = countsJudgement n g patterns slots
+-- the refusals but 13 and 14 of a call on a netlist with n inputs, g gates and k outputs; an image is judged by itself
+unfoldable pub argumentJudgement : ℕ → ℕ → ℕ → Call → Judgement
+argumentJudgement n g k (open-image bs) = Fine
+argumentJudgement n g k (toggle-input i) = named i n
+argumentJudgement n g k (set-flip x kind field) = otherwise (named x g) (flipJudgement x kind field)
+argumentJudgement n g k read-netlist = Fine
+argumentJudgement n g k (read-gate x) = named x g
+argumentJudgement n g k (take-average weights) = weightsJudgement n weights
+argumentJudgement n g k (count-seen method patterns slots) = countsJudgement n g patterns slots
+argumentJudgement n g k (write-image room) = sliceJudgement g k room
 
 -- a call on an open area: the area's own refusal, then the arguments'
 unfoldable pub lentJudgement : List ℕ → Call → Judgement
-lentJudgement ws call = otherwise (areaJudgement ws) (argumentJudgement (inputs ws) (gates ws) call)
+lentJudgement ws call = otherwise (areaJudgement ws) (argumentJudgement (inputs ws) (gates ws) (outputs ws) call)
 
 -- the refusal that a call gets on an area whose words are ws
 abbrev pub judgement : List ℕ → Call → Judgement
@@ -90,3 +97,4 @@ judgement ws read-netlist = lentJudgement ws read-netlist
 judgement ws (read-gate g) = lentJudgement ws (read-gate g)
 judgement ws (take-average weights) = lentJudgement ws (take-average weights)
 judgement ws (count-seen method patterns slots) = lentJudgement ws (count-seen method patterns slots)
+judgement ws (write-image room) = lentJudgement ws (write-image room)

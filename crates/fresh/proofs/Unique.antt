@@ -181,11 +181,10 @@ held-frame ws vs sound-ws sound-vs held =
         ∙ sym (output-at ws t low)))
         (λ no. held .past k (omega arith))
 
--- two sound and fresh areas that hold the same netlist, flips and pattern are equal
-pub fresh-unique : (ws vs : List ℕ) → Sound ws → Sound vs → Fresh ws → Fresh vs → SameHeld ws vs → ((j : ℕ) → j < gates ws → flip vs j ≡ flip ws j)
+-- two sound and fresh areas of one frame that hold the same flips and pattern are equal
+pub frame-unique : (ws vs : List ℕ) → Sound ws → Sound vs → Fresh ws → Fresh vs → SameFrame ws vs → ((j : ℕ) → j < gates ws → flip vs j ≡ flip ws j)
     → pattern vs ≡ pattern ws → vs ≡ ws
-fresh-unique ws vs sound-ws sound-vs fresh-ws fresh-vs held flips q =
-    let same = held-frame ws vs sound-ws sound-vs held in
+frame-unique ws vs sound-ws sound-vs fresh-ws fresh-vs same flips q =
     let sums = same-sum vs ws (frame-same-net ws vs same) flips in
     areas-equal ws vs (sound-ws .workable .net) fresh-ws fresh-vs same q
     (record {
@@ -193,6 +192,12 @@ fresh-unique ws vs sound-ws sound-vs fresh-ws fresh-vs held flips q =
       same-high = sound-vs .sum .high ∙ ap highBits sums ∙ sym (sound-ws .sum .high);
       same-flips = flips;
     })
+
+-- and two that hold the same netlist, flips and pattern
+pub fresh-unique : (ws vs : List ℕ) → Sound ws → Sound vs → Fresh ws → Fresh vs → SameHeld ws vs → ((j : ℕ) → j < gates ws → flip vs j ≡ flip ws j)
+    → pattern vs ≡ pattern ws → vs ≡ ws
+fresh-unique ws vs sound-ws sound-vs fresh-ws fresh-vs held =
+    frame-unique ws vs sound-ws sound-vs fresh-ws fresh-vs (held-frame ws vs sound-ws sound-vs held)
 
 -- the sum and the flips the other way round, and through a third area
 sum-sym : (ws vs : List ℕ) → gates vs ≡ gates ws → SameSum ws vs → SameSum vs ws

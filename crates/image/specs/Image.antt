@@ -26,6 +26,10 @@ outputBytes = 2
 abbrev pub middleBytes : ℕ → ℕ → ℕ
 middleBytes g k = recordBytes * g + outputBytes * k
 
+-- a whole image whose heading is empty
+abbrev pub imageLength : ℕ → ℕ → ℕ
+imageLength g k = middleBytes g k + trailerBytes
+
 -- little-endian numbers of two and of four bytes
 abbrev pub u16At : List ℕ → ℕ → ℕ
 u16At bs at = getD bs at 0 + 256 * getD bs (at + 1) 0

@@ -12,10 +12,10 @@ use Rattle.netlist.specs.Netlist.{Gate, Netlist, gateAt, noGate}
 use Rattle.image.specs.Image.{recordField, outputAt}
 use Rattle.image.specs.Loading.{recordChance, outputList}
 use Rattle.image.specs.Netlist.{recordGate, recordGates, imageNet}
-use Rattle.records.specs.Bytes.{imageOf, middleOf}
-use Rattle.records.specs.Passes.{Holdable, WrittenReadBack}
+use Rattle.records.specs.Bytes.{Contents, middleOf, netContents, imageOf}
+use Rattle.records.specs.Passes.{Fits, four, Holdable, WrittenReadBack}
 use Rattle.records.proofs.Trailer.{inputs-again, gates-again, outputs-again, middle-again}
-use Rattle.records.proofs.Passes.{four, count-again, kind-again, table-again, pins-again, output-again}
+use Rattle.records.proofs.Passes.{holdable-fits, count-again, kind-again, table-again, pins-again, output-again}
 
 -- the used ones of four pins
 used : (ps : List ℕ) → length ps ≤ 4 → take (length ps) (four ps) ≡ ps
@@ -44,34 +44,40 @@ gates-are m (g ∷ gs) j f =
     (gates-are m gs (suc j) (λ i h. let moved : suc j + i ≡ j + suc i = omega arith in ap (recordGate m) moved ∙ f (suc i) (omega arith)))
 
 module _ (net : Netlist) (h : Holdable net) where
-  gate-again : (j : ℕ) → j < length (net .gates) → recordGate (middleOf net) j ≡ gateAt net j
+  abbrev w : Contents
+  w = netContents net
+
+  fits : Fits w
+  fits = holdable-fits net h
+
+  gate-again : (j : ℕ) → j < length (net .gates) → recordGate (middleOf w) j ≡ gateAt net j
   unfolding recordChance
   gate-again j here =
       same-gate (gateAt net j)
-      (ap₂ take (count-again net h j here) (pins-again net h j here) ∙ used (gateAt net j .pins) (h .few-pins j here))
-      (table-again net h j here)
-      (kind-again net h j here ∙ sym (h .never-flips j here .0))
-      (ap (λ (k : ℕ). flipChance k (recordField (middleOf net) j)) (kind-again net h j here)
-      ∙ no-chance (recordField (middleOf net) j)
+      (ap₂ take (count-again w fits j here) (pins-again w fits j here) ∙ used (gateAt net j .pins) (h .few-pins j here))
+      (table-again w fits j here)
+      (kind-again w fits j here ∙ sym (h .never-flips j here .0))
+      (ap (λ (k : ℕ). flipChance k (recordField (middleOf w) j)) (kind-again w fits j here)
+      ∙ no-chance (recordField (middleOf w) j)
       ∙ sym (h .never-flips j here .1))
 
-  outputs-are : outputList (middleOf net) (length (net .gates)) (length (net .outputs)) ≡ net .outputs
+  outputs-are : outputList (middleOf w) (length (net .gates)) (length (net .outputs)) ≡ net .outputs
   outputs-are =
-      let words = outputAt (middleOf net) (length (net .gates)) in
+      let words = outputAt (middleOf w) (length (net .gates)) in
       let long = length-listed words (length (net .outputs)) in
-      ext-getD 0 (outputList (middleOf net) (length (net .gates)) (length (net .outputs))) (net .outputs) long
-      (λ k l. let here : k < length (net .outputs) = omega arith in listed-at words (length (net .outputs)) k here ∙ output-again net h k here)
+      ext-getD 0 (outputList (middleOf w) (length (net .gates)) (length (net .outputs))) (net .outputs) long
+      (λ k l. let here : k < length (net .outputs) = omega arith in listed-at words (length (net .outputs)) k here ∙ output-again w fits k here)
 
   all-again : imageNet (imageOf net) ≡ net
   unfolding imageNet
   all-again =
       rw (
-        middle-again net h,
-        inputs-again net h,
-        gates-again net h,
-        outputs-again net h,
+        middle-again w fits,
+        inputs-again w fits,
+        gates-again w fits,
+        outputs-again w fits,
         outputs-are,
-        gates-are (middleOf net) (net .gates) 0 (λ i here. rw zero-add (gate-again i here)),
+        gates-are (middleOf w) (net .gates) 0 (λ i here. rw zero-add (gate-again i here)),
       )
 
 pub written-read-back : WrittenReadBack

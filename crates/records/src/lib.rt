@@ -49,11 +49,13 @@ pub fn write_output(bytes: &mut [u8], at: usize, source: usize)
     store(bytes, at, &word[..]);
 }
 
-// The record of a gate that never flips.
+// A gate's record.
 pub fn write_record(
     bytes: &mut [u8],
     at: usize,
     count: usize,
+    kind: u8,
+    field: [u8; 8],
     table: usize,
     p: usize,
     q: usize,
@@ -62,11 +64,11 @@ pub fn write_record(
 )
     requires { ⌜ at + recordBytes ≤ length (now bytes) ⌝ }
     requires { ⌜ (count < 256) × (table < 65_536) × (p < 65_536) × (q < 65_536) × (r < 65_536) × (s < 65_536) ⌝ }
-    ensures { λ _. ⌜ now (bytes .exit) ≡ sets (now (bytes .entry)) at (recordOf count table (p ∷ q ∷ r ∷ s ∷ [])) ⌝ }
+    ensures { λ _. ⌜ now (bytes .exit) ≡ sets (now (bytes .entry)) at (recordOf count kind table (p ∷ q ∷ r ∷ s ∷ []) field) ⌝ }
 {
     let record = [
         byte(count),
-        0,
+        kind,
         low(table),
         high(table),
         low(p),
@@ -77,14 +79,14 @@ pub fn write_record(
         high(r),
         low(s),
         high(s),
-        0,
-        0,
-        0,
-        0,
-        0,
-        0,
-        0,
-        0,
+        field[0],
+        field[1],
+        field[2],
+        field[3],
+        field[4],
+        field[5],
+        field[6],
+        field[7],
     ];
     store(bytes, at, &record[..]);
 }

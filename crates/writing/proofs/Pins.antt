@@ -6,7 +6,7 @@ use native.Mathlib.Omega.{arith}
 use lib.ListN.{length, getD, length-map, List·getD-eq-default}
 use Rattle.netlist.specs.Netlist.{Gate}
 use Rattle.placing.specs.Placing.{entries}
-use Rattle.records.specs.Bytes.{recordOf}
+use Rattle.records.specs.Bytes.{recordOf, noField}
 use Rattle.meaning.proofs.Meaning.{map-entry, entries-length}
 
 pub used : (f : ℕ → ℕ) (pins : List ℕ) (b k p : ℕ) → p < k → f (getD pins (b + p) 0) ≡ getD (map f (entries pins b k)) p 0
@@ -20,7 +20,7 @@ unused f pins b k p h = sym (List·getD-eq-default (map f (entries pins b k)) 0 
 
 -- a record by its four pins
 pub by-pins : (ps : List ℕ) (count table p q r s : ℕ) → count ≡ length ps → p ≡ getD ps 0 0 → q ≡ getD ps 1 0 → r ≡ getD ps 2 0 → s ≡ getD ps 3 0
-    → recordOf count table (p ∷ q ∷ r ∷ s ∷ []) ≡ recordOf (length ps) table ps
+    → recordOf count 0 table (p ∷ q ∷ r ∷ s ∷ []) noField ≡ recordOf (length ps) 0 table ps noField
 by-pins ps count table p q r s c e f g h = rw (c, e, f, g, h)
 
 pub gates-length : (f : ℕ → Gate) (order : List ℕ) (b k : ℕ) → length (map f (entries order b k)) ≡ k

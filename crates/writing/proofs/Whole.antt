@@ -1,20 +1,19 @@
 -- Records, output words and trailer after each other are the image. Assumes nothing.
 use Prim.Native.Nat.{ℕ, _*_}
-use mathlib.Core.Path.{_≡_, refl, ap, ap₂, sym, _∙_}
-use mathlib.Core.List.{List, _++_}
+use mathlib.Core.Path.{_≡_, ap, ap₂, sym, _∙_}
+use mathlib.Core.List.{List}
 use native.Mathlib.Nat.{zero-add}
-use native.Mathlib.Omega.{arith}
-use lib.ListN.{getD}
+use lib.ListN.{length, getD}
 use lib.Seq.{sets}
 use Rattle.lists.specs.Lists.{joined}
-use Rattle.lists.proofs.Joined.{length-joined, joined-same}
-use Rattle.lists.proofs.Parts.{sets-append}
+use Rattle.lists.proofs.Joined.{joined-same}
 use Rattle.netlist.specs.Netlist.{Netlist, gateAt, noGate}
 use Rattle.placing.specs.Placing.{entries}
 use Rattle.meaning.specs.Net.{sourceOf, placedGate, placedNet}
 use Rattle.meaning.proofs.Meaning.{map-entry}
-use Rattle.image.specs.Image.{recordBytes, outputBytes, middleBytes}
-use Rattle.records.specs.Bytes.{twoBytes, gateBytes, gatesBytes, outputsBytes, trailerOf, imageOf}
+use Rattle.image.specs.Image.{recordBytes, middleBytes}
+use Rattle.records.specs.Bytes.{twoBytes, gateBytes, gatesBytes, outputsBytes, trailerOf, netContents, imageOf}
+use Rattle.records.proofs.Whole.{whole as parts-make}
 use Rattle.writing.specs.Written.{outputIn}
 use Rattle.writing.proofs.Pins.{mapped-length, gates-length}
 
@@ -25,13 +24,13 @@ module _ (S : ℕ → List ℕ) (T : ℕ → ℕ) (n g k : ℕ) (place order out
   abbrev pub gate : ℕ → List ℕ
   gate q = gateBytes (placedGate S T n place (getD order q 0))
 
-  gates-are : joined gate g ≡ gatesBytes net
+  gates-are : joined gate g ≡ gatesBytes (netContents net)
   gates-are =
       rw (gates-length (placedGate S T n place) order 0 g)
       (joined-same gate (λ (q : ℕ). gateBytes (gateAt net q)) g
       (λ q h. ap gateBytes (sym (map-entry (placedGate S T n place) noGate order 0 g q h ∙ ap (λ (x : ℕ). placedGate S T n place (getD order x 0)) (zero-add q)))))
 
-  outputs-are : joined (outputIn n place outs) k ≡ outputsBytes net
+  outputs-are : joined (outputIn n place outs) k ≡ outputsBytes (netContents net)
   outputs-are =
       rw (mapped-length (sourceOf n place) outs 0 k)
       (joined-same (outputIn n place outs) (λ (i : ℕ). twoBytes (getD (net .outputs) i 0)) k
@@ -39,17 +38,10 @@ module _ (S : ℕ → List ℕ) (T : ℕ → ℕ) (n g k : ℕ) (place order out
 
   pub whole : (l w₁ w₂ w₃ : List ℕ) → w₁ ≡ sets l 0 (joined gate g) → w₂ ≡ sets w₁ (recordBytes * g) (joined (outputIn n place outs) k)
       → w₃ ≡ sets w₂ (middleBytes g k) (trailerOf n g k) → w₃ ≡ sets l 0 (imageOf net)
-  unfolding imageOf
   whole l w₁ w₂ w₃ e₁ e₂ e₃ =
-      let gs = joined gate g in
-      let os = joined (outputIn n place outs) k in
-      let lg = length-joined gate recordBytes (λ i. refl) g in
-      let lo = length-joined (outputIn n place outs) outputBytes (λ i. refl) k in
-      e₃
-      ∙ ap (λ (w : List ℕ). sets w (middleBytes g k) (trailerOf n g k)) (e₂ ∙ ap (λ (w : List ℕ). sets w (recordBytes * g) os) e₁)
-      ∙ sym (sets-append os (trailerOf n g k) (sets l 0 gs) (recordBytes * g) (middleBytes g k) (omega (arith, lo)))
-      ∙ sym (sets-append gs (os ++ trailerOf n g k) l 0 (recordBytes * g) (omega (arith, lg)))
-      ∙ ap (sets l 0)
-      (ap₂ (λ (a b : List ℕ). a ++ (b ++ trailerOf n g k)) gates-are outputs-are
-      ∙ ap₂ (λ (x y : ℕ). gatesBytes net ++ (outputsBytes net ++ trailerOf n x y)) (sym (gates-length (placedGate S T n place) order 0 g))
-      (sym (mapped-length (sourceOf n place) outs 0 k)))
+      let many : g ≡ length (net .gates) = sym (gates-length (placedGate S T n place) order 0 g) in
+      let outputs : k ≡ length (net .outputs) = sym (mapped-length (sourceOf n place) outs 0 k) in
+      parts-make (netContents net) l w₁ w₂ w₃
+      (e₁ ∙ ap (sets l 0) gates-are)
+      (e₂ ∙ ap₂ (λ (x : ℕ) (bs : List ℕ). sets w₁ (recordBytes * x) bs) many outputs-are)
+      (e₃ ∙ ap₂ (λ (x y : ℕ). sets w₂ (middleBytes x y) (trailerOf n x y)) many outputs)

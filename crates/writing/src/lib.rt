@@ -6,10 +6,10 @@ ghost use lib.ListN.{length, getD};
 ghost use lib.Seq.{sets};
 ghost use Rattle.lists.specs.Lists.{joined};
 ghost use Rattle.area.specs.Layout.{mostPins, mostGates, mostOutputs};
-ghost use Rattle.image.specs.Image.{recordBytes, middleBytes};
+ghost use Rattle.image.specs.Image.{recordBytes, middleBytes, imageLength};
 ghost use Rattle.placing.specs.Placing.{entries};
 ghost use Rattle.meaning.specs.Net.{sourceOf};
-ghost use Rattle.records.specs.Bytes.{imageLength, imageOf};
+ghost use Rattle.records.specs.Bytes.{imageOf};
 ghost use Rattle.writing.specs.Written.{recordIn, outputIn, heldNet, Words, Sourced, Pinned, Placeable, Ordered};
 
 // The source of the image that a definition becomes. Every gate is placed, so that no entry is 0.
@@ -79,7 +79,19 @@ fn write_gate(
     let second = pin(place, pins, inputs, gate, count, 1);
     let third = pin(place, pins, inputs, gate, count, 2);
     let fourth = pin(place, pins, inputs, gate, count, 3);
-    records::write_record(image, at, count, table, first, second, third, fourth);
+    let never = [0, 0, 0, 0, 0, 0, 0, 0];
+    records::write_record(
+        image,
+        at,
+        count,
+        0,
+        never,
+        table,
+        first,
+        second,
+        third,
+        fourth,
+    );
 }
 
 // The records of all gates, in the order of the image.

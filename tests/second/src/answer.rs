@@ -1,4 +1,4 @@
-//! What a call answers, and the eight calls on an area as one trait, so that the model and the
+//! What a call answers, and the nine calls on an area as one trait, so that the model and the
 //! library can be driven by the same code.
 
 use crate::counts::Method;
@@ -43,7 +43,7 @@ pub struct GateReading {
     pub failure: u32,
 }
 
-/// The eight calls on an area; both methods of counting stand under one name.
+/// The nine calls on an area; both methods of counting stand under one name.
 pub trait Bench {
     fn open(&self, area: &mut [u32], image: &[u8]) -> Answer<u32>;
     fn toggle_input(&self, area: &mut [u32], input: u32) -> Answer<()>;
@@ -58,4 +58,5 @@ pub trait Bench {
         patterns: &[u32],
         counts: &mut [u32],
     ) -> Answer<()>;
+    fn write_image(&self, area: &[u32], image: &mut [u8]) -> Answer<u32>;
 }

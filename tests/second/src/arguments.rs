@@ -5,6 +5,7 @@ use crate::counts::{Method, MAX_LISTED};
 use crate::images::{bad_flip, damage, good_draft, good_flip, noise, Size};
 use crate::model::{Counts, HEAD, MAX_WEIGHT};
 use crate::random::Random;
+use crate::written;
 
 /// A number that should name one of `count` things; once in ten it names none.
 pub fn name(random: &mut Random, count: u32) -> u32 {
@@ -108,6 +109,17 @@ pub fn counting(random: &mut Random, counts: Counts, method: Method) -> Call {
     Call::Counts { method, patterns, room: room(random, counts.gates) }
 }
 
+/// The length of a slice for the image of an area: enough mostly, or some bytes fewer.
+pub fn image_room(random: &mut Random, counts: Counts) -> usize {
+    let length = written::length(counts);
+    match random.below(12) {
+        0 => length - 1,
+        1 => random.index(length),
+        2..=4 => length + 1 + random.index(40),
+        _ => length,
+    }
+}
+
 /// An image: whole, damaged in one to three ways, or noise.
 pub fn image(random: &mut Random, size: Size) -> Vec<u8> {
     let mut draft = good_draft(random, size);
@@ -142,7 +154,7 @@ pub fn lent(random: &mut Random, all: usize, needs: usize) -> usize {
 /// Any call on an area with these counts. Averages cost a whole evaluation for each pattern, so they
 /// are made only where `averages` allows.
 pub fn call(random: &mut Random, counts: Counts, size: Size, averages: bool) -> Call {
-    match random.below(22) {
+    match random.below(23) {
         0..=5 => Call::Toggle(name(random, counts.inputs)),
         6..=10 => {
             let (kind, field) = flip(random);
@@ -154,6 +166,7 @@ pub fn call(random: &mut Random, counts: Counts, size: Size, averages: bool) -> 
         16..=18 => Call::Toggle(name(random, counts.inputs)),
         19 => counting(random, counts, Method::Flip),
         20 => counting(random, counts, Method::Mask),
+        21 => Call::WriteImage { room: image_room(random, counts) },
         _ => Call::Open(image(random, size)),
     }
 }

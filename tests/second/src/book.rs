@@ -5,6 +5,7 @@ use crate::compare::Call;
 use crate::counts;
 use crate::exact::{self, ExactSums};
 use crate::model::{self, flip_chance, Counts, Model, Netlist, Refusal};
+use crate::written;
 
 pub struct Book {
     pub netlist: Netlist,
@@ -69,6 +70,7 @@ impl Book {
             Call::Counts { patterns, room, .. } => {
                 counts::judge_list(self.counts(), patterns, *room)?
             }
+            Call::WriteImage { room } => written::judge_room(self.counts(), *room)?,
         }
         Ok(())
     }

@@ -25,9 +25,13 @@ pub enum Call {
         patterns: Vec<u32>,
         room: usize,
     },
+    /// `room` is the length of the slice that is lent for the image.
+    WriteImage {
+        room: usize,
+    },
 }
 
-pub const CALL_NAMES: [&str; 8] = [
+pub const CALL_NAMES: [&str; 9] = [
     "open",
     "toggle input",
     "set flip",
@@ -36,6 +40,7 @@ pub const CALL_NAMES: [&str; 8] = [
     "average",
     "counts by flip",
     "counts by mask",
+    "write image",
 ];
 
 impl Call {
@@ -50,6 +55,7 @@ impl Call {
             Call::Average(_) => 5,
             Call::Counts { method: Method::Flip, .. } => 6,
             Call::Counts { method: Method::Mask, .. } => 7,
+            Call::WriteImage { .. } => 8,
         }
     }
 }
@@ -64,6 +70,7 @@ pub enum Reply {
     ReadGate(Answer<GateReading>),
     Average(Answer<u32>),
     Counts { answer: Answer<()>, counts: Vec<u32> },
+    WriteImage { answer: Answer<u32>, bytes: Vec<u8> },
 }
 
 impl Reply {
@@ -73,6 +80,7 @@ impl Reply {
             Reply::Open(answer) | Reply::Average(answer) => answer.number(),
             Reply::Toggle(answer) | Reply::Set(answer) => answer.number(),
             Reply::Counts { answer, .. } => answer.number(),
+            Reply::WriteImage { answer, .. } => answer.number(),
             Reply::ReadNetlist(answer) => answer.number(),
             Reply::ReadGate(answer) => answer.number(),
         }
@@ -90,6 +98,7 @@ impl Reply {
             Reply::Open(answer) | Reply::Average(answer) => of(answer),
             Reply::Toggle(answer) | Reply::Set(answer) => of(answer),
             Reply::Counts { answer, .. } => of(answer),
+            Reply::WriteImage { answer, .. } => of(answer),
             Reply::ReadNetlist(answer) => of(answer),
             Reply::ReadGate(answer) => of(answer),
         }
@@ -109,7 +118,33 @@ pub fn perform(bench: &dyn Bench, area: &mut [u32], call: &Call) -> Reply {
             let (answer, counts) = count(bench, *method, area, patterns, *room);
             Reply::Counts { answer, counts }
         }
+        Call::WriteImage { room } => {
+            let (answer, bytes) = write(bench, area, *room);
+            Reply::WriteImage { answer, bytes }
+        }
     }
+}
+
+/// Writes an image into a slice of `room` bytes that stands between guard bytes, and gives the slice as
+/// well.
+pub fn write(bench: &dyn Bench, area: &[u32], room: usize) -> (Answer<u32>, Vec<u8>) {
+    let before = unwritten_bytes(room + 2 * GUARD);
+    let mut guarded = before.clone();
+    let answer = bench.write_image(area, &mut guarded[GUARD..GUARD + room]);
+    let guards_hold =
+        guarded[..GUARD] == before[..GUARD] && guarded[GUARD + room..] == before[GUARD + room..];
+    assert!(guards_hold, "an image was written outside the {room} bytes");
+    (answer, guarded[GUARD..GUARD + room].to_vec())
+}
+
+/// Bytes in a row that no image has for long, each other than its neighbours.
+fn unwritten_bytes(length: usize) -> Vec<u8> {
+    (0..length).map(|at| 0x81 | (at % 63) as u8 * 2).collect()
+}
+
+/// What a slice lent for an image holds at first.
+pub fn lent_bytes(room: usize) -> Vec<u8> {
+    unwritten_bytes(room + GUARD).split_off(GUARD)
 }
 
 /// Counts into a slice of `room` words that stands between guard words, and gives the slice as well.
@@ -142,7 +177,7 @@ pub fn lent_counts(room: usize) -> Vec<u32> {
 /// How often each call gave each answer: row by call, column by refusal number, column 0 for done.
 #[derive(Default)]
 pub struct Tally {
-    pub counts: [[u64; 18]; CALL_NAMES.len()],
+    pub counts: [[u64; 22]; CALL_NAMES.len()],
 }
 
 impl Tally {
@@ -177,6 +212,7 @@ impl Tally {
             &[0, 12, 13, 14],
             &[0, 13, 14, 15, 16, 17],
             &[0, 13, 14, 15, 16, 17],
+            &[0, 13, 14, 21],
         ];
         for (row, numbers) in possible.iter().enumerate() {
             for (number, seen) in self.counts[row].iter().enumerate() {

@@ -1,4 +1,4 @@
-//! The proved library's nine C functions, each behind a safe function with the enum as its answer.
+//! The proved library's ten C functions, each behind a safe function with the enum as its answer.
 
 use crate::answer::{Answer, Bench, GateReading, NetlistReading};
 use crate::counts::Method;
@@ -56,6 +56,13 @@ mod c {
             patterns_len: usize,
             counts: *mut u32,
             counts_len: usize,
+        ) -> u64;
+        pub fn bench_write_image(
+            area: *const u32,
+            area_len: usize,
+            image: *mut u8,
+            image_len: usize,
+            bytes: *mut u32,
         ) -> u64;
         pub fn bench_read_blif(
             text: *const u8,
@@ -160,6 +167,15 @@ pub fn counts(method: Method, area: &[u32], patterns: &[u32], counts: &mut [u32]
     answer(returned, before == counts, ())
 }
 
+pub fn write_image(area: &[u32], slice: &mut [u8]) -> Answer<u32> {
+    let mut bytes = UNTOUCHED;
+    // SAFETY: both slices are passed with their own lengths, and `bytes` outlives the call.
+    let returned = unsafe {
+        c::bench_write_image(area.as_ptr(), area.len(), slice.as_mut_ptr(), slice.len(), &mut bytes)
+    };
+    answer(returned, bytes == UNTOUCHED, bytes)
+}
+
 pub fn read_blif(text: &[u8], slice: &mut [u8]) -> Answer<u32> {
     let mut bytes = UNTOUCHED;
     // SAFETY: both slices are passed with their own lengths, and `bytes` outlives the call.
@@ -199,5 +215,8 @@ impl Bench for Library {
         slice: &mut [u32],
     ) -> Answer<()> {
         counts(method, area, patterns, slice)
+    }
+    fn write_image(&self, area: &[u32], image: &mut [u8]) -> Answer<u32> {
+        write_image(area, image)
     }
 }

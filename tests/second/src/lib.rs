@@ -29,3 +29,4 @@ pub mod random;
 pub mod sheet;
 #[cfg(feature = "self_test")]
 pub mod stand_in;
+pub mod written;

@@ -3,6 +3,7 @@
 
 use crate::answer::{Answer, Bench, GateReading, NetlistReading};
 use crate::counts::{self, Method};
+use crate::written;
 
 /// One, in units.
 pub const U: u64 = 1 << 30;
@@ -698,6 +699,14 @@ fn try_counts(
     Ok(())
 }
 
+fn try_write(area: &[u32], slice: &mut [u8]) -> Result<u32, Refusal> {
+    let counts = judge_area(area)?;
+    written::judge_room(counts, slice.len())?;
+    let image = written::image(area);
+    slice[..image.len()].copy_from_slice(&image);
+    Ok(image.len() as u32)
+}
+
 /// Refusal 12.
 pub fn judge_weights(inputs: u32, weights: &[u32]) -> Result<(), Refusal> {
     if weights.len() != 1 << inputs {
@@ -739,5 +748,8 @@ impl Bench for Model {
         slice: &mut [u32],
     ) -> Answer<()> {
         answered(try_counts(method, area, patterns, slice))
+    }
+    fn write_image(&self, area: &[u32], image: &mut [u8]) -> Answer<u32> {
+        answered(try_write(area, image))
     }
 }

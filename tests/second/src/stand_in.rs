@@ -1,4 +1,4 @@
-//! The model behind the library's nine names, so that every test can run against itself. With
+//! The model behind the library's ten names, so that every test can run against itself. With
 //! `FAULT=name` in the environment it errs in one way, to show that the tests notice.
 
 use crate::answer::{Answer, Bench};
@@ -78,9 +78,23 @@ enum Fault {
     StaleSum,
     /// The high word of the sum is always 0.
     NoCarry,
+    /// Of the written image: a flip of no units is written as kind 1.
+    ZeroAsChance,
+    /// Its flips pass through f32.
+    FlipsInF32,
+    /// It has a heading of one byte.
+    WrittenHeading,
+    /// Its unused pins are not cleared of what stood in the slice.
+    UnusedPins,
+    /// Bytes past it are cleared.
+    WrittenPastEnd,
+    /// A slice as long as the image is refused.
+    ExactRefused,
+    /// A slice that is too short is filled all the same.
+    WrittenRefused,
 }
 
-const FAULTS: [(&str, Fault); 34] = [
+const FAULTS: [(&str, Fault); 41] = [
     ("round_down", Fault::RoundDown),
     ("half_up", Fault::HalfUp),
     ("dead_readers", Fault::DeadReaders),
@@ -115,6 +129,13 @@ const FAULTS: [(&str, Fault); 34] = [
     ("dead_summed", Fault::DeadSummed),
     ("stale_sum", Fault::StaleSum),
     ("no_carry", Fault::NoCarry),
+    ("zero_as_chance", Fault::ZeroAsChance),
+    ("flips_in_f32", Fault::FlipsInF32),
+    ("written_heading", Fault::WrittenHeading),
+    ("unused_pins", Fault::UnusedPins),
+    ("written_past_end", Fault::WrittenPastEnd),
+    ("exact_refused", Fault::ExactRefused),
+    ("written_refused", Fault::WrittenRefused),
 ];
 
 fn fault() -> Fault {
@@ -382,6 +403,72 @@ fn spoil_counts(method: Method, area: &[u32], patterns: &[u32], slice: &mut [u32
     }
     if list != patterns {
         seen.copy_from_slice(&counts::count(method, area, of_area, &list));
+    }
+}
+
+/// # Safety
+/// As for `bench_open`.
+#[no_mangle]
+pub unsafe extern "C" fn bench_write_image(
+    area: *const u32,
+    area_len: usize,
+    image: *mut u8,
+    image_len: usize,
+    bytes: *mut u32,
+) -> u64 {
+    let area = std::slice::from_raw_parts(area, area_len);
+    let slice = std::slice::from_raw_parts_mut(image, image_len);
+    let before = slice.to_vec();
+    let answer = bench().write_image(area, slice);
+    match answer {
+        Answer::Done(length)
+            if fault() == Fault::ExactRefused && length as usize == before.len() =>
+        {
+            slice.copy_from_slice(&before);
+            return 21 << 32;
+        }
+        Answer::Done(length) => {
+            *bytes = spoil_image(&before, slice, length as usize) as u32;
+        }
+        Answer::Refused { number: 21, .. } if fault() == Fault::WrittenRefused => slice.fill(0),
+        _ => {}
+    }
+    encode(&answer)
+}
+
+/// The written image as one of the faults leaves it, and its length.
+fn spoil_image(before: &[u8], slice: &mut [u8], length: usize) -> usize {
+    let trailer = length - model::TRAILER;
+    let gates = usize::from(u16::from_le_bytes([slice[trailer + 2], slice[trailer + 3]]));
+    match fault() {
+        Fault::WrittenPastEnd => slice[length..].fill(0),
+        Fault::WrittenHeading if length < slice.len() => {
+            slice.copy_within(..length, 1);
+            slice[length - 3..=length].copy_from_slice(&(length as u32 + 1).to_le_bytes());
+            return length + 1;
+        }
+        Fault::ZeroAsChance | Fault::FlipsInF32 | Fault::UnusedPins => {
+            for at in (0..gates).map(|gate| gate * model::RECORD) {
+                spoil_record(&mut slice[at..at + model::RECORD], &before[at..]);
+            }
+        }
+        _ => {}
+    }
+    length
+}
+
+fn spoil_record(record: &mut [u8], before: &[u8]) {
+    let field = [0, 1, 2, 3, 4, 5, 6, 7].map(|byte| record[12 + byte]);
+    match fault() {
+        Fault::ZeroAsChance => record[1] = 1,
+        Fault::FlipsInF32 => {
+            let short = f64::from(f64::from_le_bytes(field) as f32);
+            record[12..].copy_from_slice(&short.to_le_bytes());
+        }
+        _ => {
+            let unused = 4 + 2 * usize::from(record[0])..12;
+            record[unused.clone()].copy_from_slice(&before[unused]);
+        }
     }
 }
 

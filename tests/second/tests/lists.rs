@@ -1,15 +1,16 @@
 //! Lists of calls on small netlists. After each call the reliability must lie near the exact sum over
 //! all flip patterns, and each average near the exact one; each count must be the number of patterns
-//! in which that gate's flip changes an output; what is refused is judged by the book.
+//! in which that gate's flip changes an output; each image written must be the book's; what is refused
+//! is judged by the book.
 //! The library alone is driven here, so that these bounds do not lean on the model's figures.
 
 use second::arguments;
 use second::book::Book;
-use second::compare::{lent_counts, perform, Call, Reply, CALL_NAMES};
+use second::compare::{lent_bytes, lent_counts, perform, Call, Reply, CALL_NAMES};
 use second::exact::{self, outputs_under, Big};
 use second::ffi::Library;
 use second::images::{bad_flip, good_draft, good_flip, Size};
-use second::model::{self, Counts};
+use second::model::{self, Counts, Model};
 use second::random::{seed, Random};
 
 const SIZE: Size = Size { inputs: 3, gates: 10, outputs: 4 };
@@ -27,6 +28,7 @@ struct Seen {
     averages: u64,
     /// Gates whose counts were compared.
     counts: u64,
+    images: u64,
     /// The largest distance for each live gate, in thousandths of a unit.
     widest: u64,
 }
@@ -44,8 +46,9 @@ fn after_any_list_the_figures_are_near_the_exact_ones() {
     println!("{} of them refused", seen.refused);
     println!("{} reliabilities and {} averages within bounds", seen.reliabilities, seen.averages);
     println!("{} counts of gates are those of their flips", seen.counts);
+    println!("{} images written are the book's", seen.images);
     println!("widest distance: 0.{:03} units for each live gate", seen.widest);
-    assert!(seen.averages >= 1_000 && seen.counts >= 10_000);
+    assert!(seen.averages >= 1_000 && seen.counts >= 10_000 && seen.images >= 1_000);
 }
 
 fn one_list(random: &mut Random, seen: &mut Seen) {
@@ -116,7 +119,26 @@ fn check_result(call: &Call, reply: &Reply, book: &Book, seen: &mut Seen) {
             }
             assert_eq!(*counts, wanted, "{call:?} on {:?}", book.netlist);
         }
+        (Call::WriteImage { room }, Reply::WriteImage { answer, bytes }) => {
+            check_image(answer.done() as usize, *room, bytes, book);
+            seen.images += 1;
+        }
         _ => {}
+    }
+}
+
+/// What was written is an image of the book's netlist, each chance the nearest number of units.
+fn check_image(length: usize, room: usize, bytes: &[u8], book: &Book) {
+    assert_eq!(bytes[length..], lent_bytes(room)[length..]);
+    let read = Model::DOCUMENT.netlist(&bytes[..length]).expect("an image that passes");
+    assert_eq!((read.inputs, &read.outputs), (book.netlist.inputs, &book.netlist.outputs));
+    assert_eq!(read.gates.len(), book.netlist.gates.len());
+    for (gate, entry) in read.gates.iter().zip(&book.netlist.gates) {
+        let units = exact::nearest_units(entry.chance);
+        assert_eq!((gate.table, gate.used_pins()), (entry.table, entry.used_pins()));
+        assert_eq!((gate.kind, exact::nearest_units(gate.chance)), (u8::from(units > 0), units));
+        let whole = u128::from(gate.chance.numerator) << 30;
+        assert_eq!(whole, u128::from(units) << gate.chance.shift, "units / U exactly");
     }
 }
 

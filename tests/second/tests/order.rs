@@ -2,7 +2,7 @@
 //! here and not taken from the model.
 
 use second::answer::Answer;
-use second::compare::{count, lent_counts};
+use second::compare::{count, lent_bytes, lent_counts, write};
 use second::counts::{Method, MAX_LISTED, METHODS};
 use second::ffi::{self, Library};
 use second::images::{chance, Draft, Record, NEVER};
@@ -283,6 +283,33 @@ fn weights_length_then_size_then_zero() {
     }
     assert_eq!(ffi::average(&mut area, &[0, 0, 0, over - 1]), Answer::Done(U as u32));
 }
+
+/// Writing has one condition after those of the area: room for the image, here of 80 bytes.
+#[test]
+fn in_writing_the_first_of_any_set_wins() {
+    for rule in 0..rule_faults().len() {
+        for set in 0..32u32 {
+            let area = spoilt_area(set, rule);
+            let before = area.clone();
+            for room in if set & ROOM_FOR_IMAGE != 0 { [0, 16, 79] } else { [80, 81, 200] } {
+                let told = format!("{room} bytes, set {set:#b}, rule {rule}");
+                let (answer, bytes) = write(&Library, &area, room);
+                let wanted = match set {
+                    0 => Answer::Done(80),
+                    ROOM_FOR_IMAGE => Answer::Refused { number: 21, place: 0 },
+                    _ => expected(set & !ROOM_FOR_IMAGE, 0, 0, (0, 0)),
+                };
+                assert_eq!(answer, wanted, "{told}");
+                let first = if set == 0 { 80 } else { 0 };
+                assert_eq!(bytes[first..], lent_bytes(room)[first..], "{told}");
+                assert!(set != 0 || bytes[..80] == sound().bytes(), "{told}");
+                assert_eq!(area, before, "{told}");
+            }
+        }
+    }
+}
+
+const ROOM_FOR_IMAGE: u32 = 16;
 
 /// The conditions of counting after those of the area, in the order in which they are tried.
 const LIST: u32 = 16;

@@ -1,7 +1,7 @@
 -- `bench::read_gate` meets its contract. Assumes nothing.
 use mathlib.Core.Path.{_≡_, refl, sym, ap, _∙_}
 use native.Mathlib.Omega.{arith}
-use Rattle.area.specs.Layout.{inputs, gates, figure}
+use Rattle.area.specs.Layout.{inputs, gates, outputs, figure}
 use Rattle.calls.specs.Judgements.{read-gate}
 use Rattle.calls.proofs.Judgements.{lent-fine, gate-fine}
 use borrow.Author.Needs.{needs}
@@ -14,7 +14,8 @@ figure-requires c κs =
     let at-judge-gate = c .before .before .before .judge-gate in
     let a = s .args in
     let p = lent-fine (a .area .now) (read-gate (a .gate)) (sym (at-judge-gate .ensures) ∙ c .before .enum-told .given .1) in
-    omega (arith, c .index .ensures, p .0 .workable .net .long, gate-fine (inputs (a .area .now)) (gates (a .area .now)) (a .gate) (p .1))
+    let ws = a .area .now in
+    omega (arith, c .index .ensures, p .0 .workable .net .long, gate-fine (inputs ws) (gates ws) (outputs ws) (a .gate) (p .1))
 
 returns : tie.Need-returns
 returns c =

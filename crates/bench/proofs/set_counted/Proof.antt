@@ -4,7 +4,7 @@ use mathlib.Core.Path.{_≡_, refl, sym, ap, _∙_}
 use native.Mathlib.Omega.{arith}
 use Rattle.refusal.specs.declared.Judgement.the-variants.{Fine}
 use Rattle.refusal.proofs.Laws.{otherwise-first, otherwise-second}
-use Rattle.area.specs.Layout.{mostSources, inputs, gates}
+use Rattle.area.specs.Layout.{mostSources, inputs, gates, outputs}
 use Rattle.area.specs.Rules.{Sound}
 use Rattle.area.proofs.Words.{few-sources}
 use Rattle.calls.specs.Judgements.{read-gate, flipJudgement, lentJudgement}
@@ -28,7 +28,7 @@ module _ (c : tie.After-enum-told) where
   there : start .args .gate < gates (start .args .area .now)
   there =
       let ws = start .args .area .now in
-      gate-fine (inputs ws) (gates ws) (start .args .gate) (lent-fine ws (read-gate (start .args .gate)) fine .1)
+      gate-fine (inputs ws) (gates ws) (outputs ws) (start .args .gate) (lent-fine ws (read-gate (start .args .gate)) fine .1)
 
 inputs-requires : tie.Need-inputs-requires
 inputs-requires c κs = omega (arith, passed (c .before) .workable .net .long)

@@ -10,7 +10,7 @@ use Rattle.refusal.proofs.Laws.{otherwise-second}
 use Rattle.chance.specs.Flip.{flipAccepted, flipUnits}
 use Rattle.chance.proofs.Laws.{units-accepted, units-refused, flip-units-at-most}
 use Rattle.netlist.specs.Live.{ifLive, readers}
-use Rattle.area.specs.Layout.{mostGates, largestFlip, inputs, gates, flip}
+use Rattle.area.specs.Layout.{mostGates, largestFlip, inputs, gates, outputs, flip}
 use Rattle.area.specs.Rules.{NetSound, Sound}
 use Rattle.area.specs.Net.{netOf}
 use Rattle.area.specs.Sum.{liveFlip, flipSum, storedSum, withSum}
@@ -31,7 +31,7 @@ passed s = lent-fine (s .args .area .now) (read-gate (s .args .gate)) (s .pre .0
 there : (s : tie.Start) → s .args .gate < gates (s .args .area .now)
 there s =
     let ws = s .args .area .now in
-    gate-fine (inputs ws) (gates ws) (s .args .gate) (lent-fine ws (read-gate (s .args .gate)) (s .pre .0) .1)
+    gate-fine (inputs ws) (gates ws) (outputs ws) (s .args .gate) (lent-fine ws (read-gate (s .args .gate)) (s .pre .0) .1)
 
 flip-requires : tie.Need-flip-requires
 flip-requires c κs =

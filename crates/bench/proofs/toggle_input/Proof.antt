@@ -1,7 +1,7 @@
 -- `bench::toggle_input` meets its contract. Assumes nothing.
 use mathlib.Core.Path.{refl, sym, ap, _∙_}
 use native.Mathlib.Omega.{arith}
-use Rattle.area.specs.Layout.{inputs, gates}
+use Rattle.area.specs.Layout.{inputs, gates, outputs}
 use Rattle.work.specs.Work.{toggleWords}
 use Rattle.calls.specs.Judgements.{toggle-input}
 use Rattle.calls.proofs.Judgements.{lent-fine, toggle-fine}
@@ -15,7 +15,7 @@ toggle-requires c κs =
     let at-judge-toggle = c .before .before .before .before .judge-toggle in
     let a = s .args in
     let p = lent-fine (a .area .now) (toggle-input (a .input)) (sym (at-judge-toggle .ensures) ∙ c .before .before .enum-told .given .1) in
-    (p .0 .workable, omega (arith, c .index .ensures, toggle-fine (inputs (a .area .now)) (gates (a .area .now)) (a .input) (p .1)))
+    (p .0 .workable, omega (arith, c .index .ensures, toggle-fine (inputs (a .area .now)) (gates (a .area .now)) (outputs (a .area .now)) (a .input) (p .1)))
 
 returns : tie.Need-returns
 returns c =

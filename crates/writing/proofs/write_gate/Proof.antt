@@ -12,7 +12,7 @@ use Rattle.model.specs.Tables.{restAt, linesFrom}
 use Rattle.model.proofs.Runs.{shorter}
 use Rattle.covers.specs.Cover.{coverTable}
 use Rattle.meaning.specs.Net.{sourceOf}
-use Rattle.records.specs.Bytes.{recordOf}
+use Rattle.records.specs.Bytes.{recordOf, noField}
 use Rattle.writing.specs.Written.{Pinned, Placeable}
 use Rattle.writing.proofs.Pins.{mapped-length, by-pins}
 use borrow.Author.Needs.{needs}
@@ -124,7 +124,7 @@ returns c =
     (rw (counted .ensures) at (at-pin2 .ensures .0))
     (rw (counted .ensures) at (at-pin3 .ensures .0))
     (rw (counted .ensures) at (at-pin4 .ensures .0))
-    ∙ ap (λ (x : ℕ). recordOf (length ps) x ps) table)
+    ∙ ap (λ (x : ℕ). recordOf (length ps) 0 x ps noField) table)
 
 pub write-gate-spec : {M : Type 1} → statement M
 write-gate-spec =

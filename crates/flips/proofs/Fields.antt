@@ -1,0 +1,15 @@
+-- Fields of a few numbers of units, as another program writes these floats. By computation. Assumes nothing.
+use mathlib.Core.Path.{_≡_, refl}
+use mathlib.Core.List.{[], _∷_}
+use lib.Count.{leadingZeros}
+use Rattle.flips.specs.Written.{highestBit, shiftedUp, unitsBits, unitsField}
+
+pub written-fields :
+    (unitsField 1 ≡ 0x00 ∷ 0x00 ∷ 0x00 ∷ 0x00 ∷ 0x00 ∷ 0x00 ∷ 0x10 ∷ 0x3e ∷ [])
+    × (unitsField 3 ≡ 0x00 ∷ 0x00 ∷ 0x00 ∷ 0x00 ∷ 0x00 ∷ 0x00 ∷ 0x28 ∷ 0x3e ∷ [])
+    × (unitsField 53_687_091 ≡ 0x00 ∷ 0x00 ∷ 0x00 ∷ 0x98 ∷ 0x99 ∷ 0x99 ∷ 0xa9 ∷ 0x3f ∷ [])
+    × (unitsField 536_870_912 ≡ 0x00 ∷ 0x00 ∷ 0x00 ∷ 0x00 ∷ 0x00 ∷ 0x00 ∷ 0xe0 ∷ 0x3f ∷ [])
+    × (unitsField 1_073_741_823 ≡ 0x00 ∷ 0x00 ∷ 0x80 ∷ 0xff ∷ 0xff ∷ 0xff ∷ 0xef ∷ 0x3f ∷ [])
+    × (unitsField 1_073_741_824 ≡ 0x00 ∷ 0x00 ∷ 0x00 ∷ 0x00 ∷ 0x00 ∷ 0x00 ∷ 0xf0 ∷ 0x3f ∷ [])
+unfolding unitsBits highestBit shiftedUp leadingZeros
+written-fields = (refl, refl, refl, refl, refl, refl)

@@ -1,0 +1,60 @@
+// A flip in units, written as the kind and the eight bytes of a flip field.
+ghost use mathlib.Core.Path.{_≡_};
+ghost use Prim.Native.Nat.{_≤_, _%_};
+ghost use Rattle.rounding.specs.Rounding.{unitsInOne};
+ghost use Rattle.flips.specs.Written.{unitsBits, unitsKind, unitsField};
+
+// 2^52: an f64's digits are below it, and it stands before them.
+const LEADING_ONE: u64 = 0x10_0000_0000_0000;
+
+fn low(x: u64) -> u8
+    ensures { λ r. ⌜ r ≡ x % 256 ⌝ }
+{
+    (x % 256) as u8
+}
+
+// The bits of the f64 that is units / U: whole numbers alone, so that no rounding mode matters.
+pub fn units_bits(units: u32) -> u64
+    requires { ⌜ units ≤ unitsInOne ⌝ }
+    ensures { λ r. ⌜ r ≡ unitsBits units ⌝ }
+{
+    if units == 0 {
+        return 0;
+    }
+    let highest = (31 - u32::leading_zeros(units)) as u64;
+    let digits = (units as u64) << (52 - highest);
+    (highest + 993) * LEADING_ONE + digits % LEADING_ONE
+}
+
+pub fn units_kind(units: u32) -> u8
+    ensures { λ r. ⌜ r ≡ unitsKind units ⌝ }
+{
+    if units == 0 {
+        return 0;
+    }
+    1
+}
+
+pub fn units_field(units: u32) -> [u8; 8]
+    requires { ⌜ units ≤ unitsInOne ⌝ }
+    ensures { λ r. ⌜ r ≡ unitsField units ⌝ }
+{
+    let b0 = units_bits(units);
+    let b1 = b0 / 256;
+    let b2 = b1 / 256;
+    let b3 = b2 / 256;
+    let b4 = b3 / 256;
+    let b5 = b4 / 256;
+    let b6 = b5 / 256;
+    let b7 = b6 / 256;
+    [
+        low(b0),
+        low(b1),
+        low(b2),
+        low(b3),
+        low(b4),
+        low(b5),
+        low(b6),
+        low(b7),
+    ]
+}

@@ -1,0 +1,4 @@
+pub mod Image
+pub mod Call
+pub mod Statements
+pub mod Sheets

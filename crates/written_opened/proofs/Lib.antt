@@ -1,0 +1,4 @@
+pub mod Past
+pub mod Opened
+pub mod RoundTrip
+pub mod Turned

@@ -1,0 +1,1 @@
+// What opening a written image gives: no code; see specs/ and proofs/.
