@@ -29,13 +29,15 @@ use Rattle.records.proofs.Passes.{written-passes}
 use Rattle.records.proofs.Netlist.{written-read-back}
 use Rattle.image.specs.Refusals.{imageRefusal}
 use Rattle.image.specs.Netlist.{imageNet}
-use Rattle.blif.specs.Reading.{textLines, inputCount, gateCount, outputCount, outputNumbers, tableIn, placeIn, modelNet, modelFault, modelLength, roomFault, linesRefusal, blifRefusal, imageOver}
+use Rattle.blif.specs.Reading.{textLines, inputCount, gateCount, outputCount, outputNumbers, tableIn, placeIn, modelNet, modelLength}
+use Rattle.blif.specs.Reading.{modelFault, roomFault, linesRefusal, blifRefusal, imageOver}
 use Rattle.blif.specs.Stages.{Fitting}
 use Rattle.blif.proofs.Counting.{within, some-there}
 use Rattle.blif.proofs.Fits.{fitting}
 use Rattle.blif.proofs.Sources.{all-known}
 use Rattle.blif_meaning.specs.Statements.{ImagePasses, ImageHoldsModel, written, WrittenMeansText}
-use Rattle.blif_meaning.proofs.Statements.{r, kept, known, counts-fine, names-fine, outputs-fine, all-defined, placedModel, same-model, map-at, values-right}
+use Rattle.blif_meaning.proofs.Statements.{r, kept, known, counts-fine, names-fine, outputs-fine, all-defined}
+use Rattle.blif_meaning.proofs.Statements.{placedModel, same-model, map-at, values-right}
 
 after-long : (ws : List (List ℕ)) → length ws - 1 ≡ length (after ws)
 after-long [] = refl
@@ -51,7 +53,8 @@ module _ (ls : List Line) (fine : modelFault ls ≡ Fine) (fit : Fitting ls) whe
 
   gates-count : length (placedModel ls fine .gates) ≡ gateCount ls
   unfolding placedModel
-  gates-count = count (sourceNumbers ls) (tableIn ls) (inputCount ls) (gateCount ls) (r ls fine .place) (r ls fine .order) (outputNumbers ls) (kept ls fine) (known ls (names-fine ls fine))
+  gates-count = count (sourceNumbers ls) (tableIn ls) (inputCount ls) (gateCount ls) (r ls fine .place) (r ls fine .order) (outputNumbers ls)
+      (kept ls fine) (known ls (names-fine ls fine))
 
   abbrev origin : ℕ → ℕ
   origin q = getD (r ls fine .order) q 0
@@ -59,7 +62,8 @@ module _ (ls : List Line) (fine : modelFault ls ≡ Fine) (fit : Fitting ls) whe
   the-gate : (q : ℕ) → q < gateCount ls
       → gateAt (placedModel ls fine) q ≡ placedGate (sourceNumbers ls) (tableIn ls) (inputCount ls) (r ls fine .place) (getD (r ls fine .order) q 0)
   unfolding placedModel
-  the-gate q h = gate-at (sourceNumbers ls) (tableIn ls) (inputCount ls) (gateCount ls) (r ls fine .place) (r ls fine .order) (outputNumbers ls) (kept ls fine) (known ls (names-fine ls fine)) q h
+  the-gate q h = gate-at (sourceNumbers ls) (tableIn ls) (inputCount ls) (gateCount ls) (r ls fine .place) (r ls fine .order) (outputNumbers ls)
+      (kept ls fine) (known ls (names-fine ls fine)) q h
 
   pins-count : (q : ℕ) → q < gateCount ls → length (gateAt (placedModel ls fine) q .pins) ≡ length (sourcesIn ls (getD (r ls fine .order) q 0))
   pins-count q h =
@@ -90,7 +94,8 @@ module _ (ls : List Line) (fine : modelFault ls ≡ Fine) (fit : Fitting ls) whe
         few-pins = λ q h. pins q (rw gates-count at h);
         table-fits = λ q h. table q (rw gates-count at h);
         never-flips = λ q h. never q (rw gates-count at h);
-        pins-below = below (sourceNumbers ls) (tableIn ls) (inputCount ls) (gateCount ls) (r ls fine .place) (r ls fine .order) (outputNumbers ls) (kept ls fine) (known ls (names-fine ls fine));
+        pins-below = below (sourceNumbers ls) (tableIn ls) (inputCount ls) (gateCount ls) (r ls fine .place) (r ls fine .order) (outputNumbers ls)
+            (kept ls fine) (known ls (names-fine ls fine));
         outputs-below = λ k h. rw gates-count (output k (rw outputs-count at h));
       }
     where
@@ -120,9 +125,11 @@ module _ (ls : List Line) (fine : modelFault ls ≡ Fine) (fit : Fitting ls) whe
           rw (← all-defined ls) (all-known (defined ls) (listed outputsKey ls) (outputs-fine ls (names-fine ls fine)) k h) in
           subst (λ (x : ℕ). x < inputCount ls + gateCount ls)
           (sym
-          (map-at (sourceOf (inputCount ls) (r ls fine .place)) 0 0 (outputNumbers ls) k (rw (length-map (listed outputsKey ls) (λ (w : Word). number (defined ls) (w .bytes))) h)
+          (map-at (sourceOf (inputCount ls) (r ls fine .place)) 0 0 (outputNumbers ls) k
+          (rw (length-map (listed outputsKey ls) (λ (w : Word). number (defined ls) (w .bytes))) h)
           ∙ ap (sourceOf (inputCount ls) (r ls fine .place)) at))
-          (to-source (sourceNumbers ls) (tableIn ls) (inputCount ls) (gateCount ls) (r ls fine .place) (r ls fine .order) (outputNumbers ls) (kept ls fine) (known ls (names-fine ls fine))
+          (to-source (sourceNumbers ls) (tableIn ls) (inputCount ls) (gateCount ls) (r ls fine .place) (r ls fine .order) (outputNumbers ls)
+          (kept ls fine) (known ls (names-fine ls fine))
           (number (defined ls) (getD (listed outputsKey ls) k noWord .bytes)) low .0)
 
   pub passes : imageRefusal (imageOf (modelNet ls)) ≡ Fine
@@ -133,7 +140,9 @@ module _ (ls : List Line) (fine : modelFault ls ≡ Fine) (fit : Fitting ls) whe
 
   outputs-long : length (modelNet ls .outputs) ≡ outputCount ls
   unfolding modelNet
-  outputs-long = length-map (outputNumbers ls) (sourceOf (inputCount ls) (placeIn ls)) ∙ length-map (listed outputsKey ls) (λ (w : Word). number (defined ls) (w .bytes))
+  outputs-long =
+      length-map (outputNumbers ls) (sourceOf (inputCount ls) (placeIn ls))
+      ∙ length-map (listed outputsKey ls) (λ (w : Word). number (defined ls) (w .bytes))
 
   pub model-long : length (imageOf (modelNet ls)) ≡ modelLength ls
   model-long =

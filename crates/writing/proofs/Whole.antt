@@ -28,7 +28,8 @@ module _ (S : ℕ → List ℕ) (T : ℕ → ℕ) (n g k : ℕ) (place order out
   gates-are =
       rw (gates-length (placedGate S T n place) order 0 g)
       (joined-same gate (λ (q : ℕ). gateBytes (gateAt net q)) g
-      (λ q h. ap gateBytes (sym (map-entry (placedGate S T n place) noGate order 0 g q h ∙ ap (λ (x : ℕ). placedGate S T n place (getD order x 0)) (zero-add q)))))
+      (λ q h. ap gateBytes (sym (map-entry (placedGate S T n place) noGate order 0 g q h
+      ∙ ap (λ (x : ℕ). placedGate S T n place (getD order x 0)) (zero-add q)))))
 
   outputs-are : joined (outputIn n place outs) k ≡ outputsBytes (netContents net)
   outputs-are =

@@ -68,16 +68,28 @@ pin-known : {inputs gate count : ℕ} {pins counts place : List ℕ} → Placeab
 pin-known {gate = gate} p e = (p .0 .pinned, p .1, rw e (p .0 .counted gate))
 
 pin-requires : tie.Need-pin-requires
-pin-requires c κs = pin-known (c .before .before .before .before .before .before .before .before .before .before .pre .1 .0) (c .before .before .before .entry .ensures)
+pin-requires c κs =
+    pin-known
+    (c .before .before .before .before .before .before .before .before .before .before .pre .1 .0)
+    (c .before .before .before .entry .ensures)
 
 pin-requires-2 : tie.Need-pin-requires-2
-pin-requires-2 c κs = pin-known (c .before .before .before .before .before .before .before .before .before .before .before .pre .1 .0) (c .before .before .before .before .entry .ensures)
+pin-requires-2 c κs =
+    pin-known
+    (c .before .before .before .before .before .before .before .before .before .before .before .pre .1 .0)
+    (c .before .before .before .before .entry .ensures)
 
 pin-requires-3 : tie.Need-pin-requires-3
-pin-requires-3 c κs = pin-known (c .before .before .before .before .before .before .before .before .before .before .before .before .pre .1 .0) (c .before .before .before .before .before .entry .ensures)
+pin-requires-3 c κs =
+    pin-known
+    (c .before .before .before .before .before .before .before .before .before .before .before .before .pre .1 .0)
+    (c .before .before .before .before .before .entry .ensures)
 
 pin-requires-4 : tie.Need-pin-requires-4
-pin-requires-4 c κs = pin-known (c .before .before .before .before .before .before .before .before .before .before .before .before .before .pre .1 .0) (c .before .before .before .before .before .before .entry .ensures)
+pin-requires-4 c κs =
+    pin-known
+    (c .before .before .before .before .before .before .before .before .before .before .before .before .before .pre .1 .0)
+    (c .before .before .before .before .before .before .entry .ensures)
 
 write-record-requires : tie.Need-write-record-requires
 write-record-requires c κs =
@@ -101,10 +113,11 @@ returns c =
     let at-pin3 = c .before .before .before .before .before .pin3 in
     let at-pin2 = c .before .before .before .before .before .before .pin2 in
     let at-pin = c .before .before .before .before .before .before .before .pin in
-    let a = c .before .before .before .before .before .before .before .before .before .before .before .before .before .before .before .before .before .before .args in
+    let at-line = c .before .before .before .before .before .before .before .before .before in
+    let a = at-line .before .before .before .before .before .before .before .before .before .args in
     let head = c .before .before .before .before .before .before .before .before .before .before .entry2 in
     let counted = c .before .before .before .before .before .before .before .before .before .before .before .entry in
-    let line = c .before .before .before .before .before .before .before .before .before .line-rest in
+    let line = at-line .line-rest in
     let last = c .before .before .before .before .before .before .before .before .table in
     let h = getD (a .heads .now) (a .gate) 0 in
     let rest : line .result ≡ restAt (a .lines .now) (a .n) (getD (a .heads .now) (a .gate) 0) =
