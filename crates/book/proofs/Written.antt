@@ -1,4 +1,4 @@
--- What is written from an area that agrees with a book opens again, to its words at pattern 0. Assumes nothing.
+-- What is written from an area that agrees with a book holds the book's netlist, and opens again, to its words at pattern 0. Assumes nothing.
 use Prim.Native.Nat.{ℕ, _+_, _/_, _%_, _^_, _≤_}
 use mathlib.Core.List.{List, []}
 use mathlib.Core.Path.{_≡_, refl, sym, ap, ap₂, _∙_}
@@ -20,7 +20,8 @@ use Rattle.calls.specs.Judgements.{openJudgement}
 use Rattle.calls.proofs.Judgements.{fine-room}
 use Rattle.records.proofs.Length.{image-bytes}
 use Rattle.written.specs.Image.{areaContents, areaImage}
-use Rattle.written_opened.specs.Statements.{neededWords, ListsOnes}
+use Rattle.written_opened.specs.Statements.{neededWords, inUnits, ListsOnes}
+use Rattle.written_opened.proofs.Holds.{holds-sound}
 use Rattle.written_opened.proofs.RoundTrip.{written-opened, written-judged, written-twice}
 use Rattle.written_opened.proofs.Turned.{turned-by-toggles}
 use Rattle.book.specs.Book.{Book}
@@ -67,6 +68,7 @@ module _ (size : ℕ) (ws : List ℕ) (b : Book) (agree : Agree size ws b) where
   image-kept =
       record {
         long = image-bytes (areaContents ws) ∙ ap₂ imageLength gate-many output-many;
+        holds = holds-sound ws (agree .kinds) (agree .chances) (agree .sound) (agree .converted) ∙ ap inUnits (agree .held);
         accepted = λ long l. accepted long (room-is long l);
         opened = λ us l. written-opened ws us fine (room-is (length us) l);
         turned = λ is ones. turned-by-toggles ws is fine (agree .fresh) (ones-are is ones);

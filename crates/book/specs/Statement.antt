@@ -18,11 +18,12 @@ use Rattle.area.specs.Sum.{lowBits, highBits}
 use Rattle.area.specs.Net.{netOf}
 use Rattle.fresh.specs.Statements.{FiguresHeld}
 use Rattle.image.specs.Image.{imageLength, imageGates, imageOutputs}
+use Rattle.image.specs.Netlist.{imageNet}
 use Rattle.calls.specs.Judgements.{Call, open-image, toggle-input, set-flip, read-netlist, read-gate, take-average, count-seen, write-image}
 use Rattle.calls.specs.Judgements.{openJudgement, judgement}
 use Rattle.calls.specs.Calls.{openWords, averageOf, left}
 use Rattle.written.specs.Image.{areaImage}
-use Rattle.written_opened.specs.Statements.{wordsOver, atPatternZero, toggledAll, ListsOnes, SameAgain}
+use Rattle.written_opened.specs.Statements.{wordsOver, atPatternZero, inUnits, toggledAll, ListsOnes, SameAgain}
 use Rattle.book.specs.Book.{Book, imageBook, bookJudgement, bookStep}
 
 -- so many units are within 1.5 for each live gate of U × the exact sum at the book's pattern, and so many as an average within half a unit more
@@ -52,11 +53,12 @@ pub record Current (ws : List ℕ) (b : Book) : Type 0 where
   pub figures : FiguresHeld chanceScale (b .net) (b .pattern) ws
   pub sum : SumHeld ws b
 
--- the image that is written of an area has the length that the book's counts give. Opened in any area with room for them it is not refused, and leaves the
--- words that this area has once turned to pattern 0; toggling the inputs that are 1 in the book's pattern, in any order, reaches these; and writing
--- from the area opened gives the same bytes
+-- the image that is written of an area has the length that the book's counts give, and holds the book's netlist, each chance as whole units. Opened in any
+-- area with room for them it is not refused, and leaves the words that this area has once turned to pattern 0; toggling the inputs that are 1 in the book's
+-- pattern, in any order, reaches these; and writing from the area opened gives the same bytes
 pub record ImageKept (ws : List ℕ) (b : Book) : Type 0 where
   pub long : length (areaImage ws) ≡ imageLength (length (b .net .gates)) (length (b .net .outputs))
+  pub holds : imageNet (areaImage ws) ≡ inUnits (b .net)
   pub accepted : (size : ℕ) → needed (length (b .net .gates)) (length (b .net .outputs)) ≤ size → openJudgement (areaImage ws) size ≡ Fine
   pub opened : (us : List ℕ) → needed (length (b .net .gates)) (length (b .net .outputs)) ≤ length us
       → openWords (areaImage ws) us ≡ wordsOver (atPatternZero ws) us

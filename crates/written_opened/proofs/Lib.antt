@@ -1,4 +1,5 @@
 pub mod Past
 pub mod Opened
 pub mod RoundTrip
+pub mod Holds
 pub mod Turned

@@ -174,7 +174,7 @@ written-twice ws us fine room =
       same = same-bytes (openWords (areaImage ws) us) ws (opened-written ws us s room);
     }
 
--- ---- what opening says
+-- ---- what opening reads and says
 
 same-nets : (ws : List ℕ) → Sound ws → (kinds chances : List ℕ) → netOf (imageWords (areaImage ws) ++ []) kinds chances ≡ netOf ws kinds chances
 same-nets ws s kinds chances =
@@ -191,14 +191,16 @@ same-nets ws s kinds chances =
       same-outputs = read-outputs ws s [];
     })
 
+-- the netlist of the image is that of the words, with the image's kinds and chances
+pub written-net : (ws : List ℕ) → Sound ws → imageNet (areaImage ws) ≡ netOf ws (imageKinds (areaImage ws)) (imageChances (areaImage ws))
+written-net ws s = let bs = areaImage ws in sym (image-net bs []) ∙ same-nets ws s (imageKinds bs) (imageChances bs)
+
 pub written-judged : WrittenJudged
 unfolding openJudgement
 written-judged ws size fine =
     let bs = areaImage ws in
     let s = sound ws fine in
     let w = written-sound ws s in
-    let kinds = imageKinds bs in
-    let chances = imageChances bs in
     let shared : sharedJudgement (imageNet bs) ≡ sharedJudgement (netOf ws [] [])
-    = ap sharedJudgement (sym (image-net bs []) ∙ same-nets ws s kinds chances) ∙ shared-same ws kinds chances [] [] in
+    = ap sharedJudgement (written-net ws s) ∙ shared-same ws (imageKinds bs) (imageChances bs) [] [] in
     rw (w .passes, shared, w .read-back .gates, w .read-back .outputs)

@@ -1,18 +1,23 @@
--- Change request 7: opening what was written from an area gives the words that the area has once turned to pattern 0. ws is the list of the area's words,
--- us that of the area which the image is opened in.
+-- Change request 7: what is written from an area holds its netlist, and opening it gives the words that the area has once turned to pattern 0. ws is the list
+-- of the area's words, us that of the area which the image is opened in.
 use Prim.Native.Nat.{ℕ, _/_, _%_, _^_, _≤_, _<_}
-use mathlib.Core.List.{List, [], _∷_, _++_}
+use mathlib.Core.List.{List, [], _∷_, _++_, map}
 use mathlib.Core.Path.{_≡_}
 use lib.ListN.{length, take, drop, set}
 use Rattle.lists.specs.Lists.{count, Below}
 use Rattle.refusal.specs.declared.Judgement.the-variants.{Fine}
 use Rattle.refusal.specs.Judgement.{otherwise}
+use Rattle.rounding.specs.Rounding.{unitsInOne, toUnits}
+use Rattle.chance.specs.Number.{chanceScale, wholeChance}
+use Rattle.flips.specs.Written.{unitsKind}
+use Rattle.netlist.specs.Netlist.{Gate, Netlist}
 use Rattle.area.specs.Layout.{inputs, gates, outputs, patternIndex, pattern, needed}
 use Rattle.area.specs.Net.{netOf}
 use Rattle.area.specs.Rules.{roomJudgement, areaJudgement}
 use Rattle.live.specs.Shared.{sharedJudgement}
+use Rattle.image.specs.Netlist.{imageNet}
 use Rattle.work.specs.Work.{workAll}
-use Rattle.fresh.specs.Fresh.{Fresh}
+use Rattle.fresh.specs.Fresh.{Fresh, Converted}
 use Rattle.calls.specs.Judgements.{toggle-input, openJudgement}
 use Rattle.calls.specs.Calls.{openWords, left}
 use Rattle.written.specs.Image.{areaImage}
@@ -28,6 +33,25 @@ wordsOver ws us = take (neededWords ws) ws ++ drop (neededWords ws) us
 -- turned to pattern 0: every figure worked out for it
 abbrev pub atPatternZero : List ℕ → List ℕ
 atPatternZero ws = workAll (set ws patternIndex 0)
+
+-- ---- the netlist that is written
+
+-- a chance, a whole number of 2^-1074, in units; and the gate whose chance is just so many units, with the kind that it is written with
+abbrev pub gateUnits : Gate → ℕ
+gateUnits g = toUnits unitsInOne chanceScale (g .chance)
+
+abbrev pub gateInUnits : Gate → Gate
+gateInUnits g = record { pins = g .pins; table = g .table; kind = unitsKind (gateUnits g); chance = wholeChance (gateUnits g) unitsInOne }
+
+-- nothing of a netlist is lost but what its chances lose when they become units
+abbrev pub inUnits : Netlist → Netlist
+inUnits net = record { inputs = net .inputs; gates = map gateInUnits (net .gates); outputs = net .outputs }
+
+-- the kinds and chances before conversion, which an area does not hold, are given beside its words
+abbrev pub WrittenHolds : Type 0
+WrittenHolds =
+    (ws kinds chances : List ℕ) → areaJudgement ws ≡ Fine → Converted chanceScale ws chances
+    → imageNet (areaImage ws) ≡ inUnits (netOf ws kinds chances)
 
 -- ---- the turn, by calls
 
