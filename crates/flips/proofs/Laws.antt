@@ -126,6 +126,17 @@ module _ (u : ℕ) (some : 0 < u) (most : u ≤ unitsInOne) where
       go zero h = absurd (omega arith)
       go (suc v) h = refl
 
+  -- shifted by the leading zeros, from the bits of 1 on
+  pub shifted-is : u * 2 ^ 21 * 2 ^ leadingZeros 32 u ≡ shiftedUp u
+  unfolding highestBit shiftedUp
+  shifted-is =
+      mul-assoc u (2 ^ 21) (2 ^ leadingZeros 32 u)
+      ∙ ap (λ (z : ℕ). u * z) (powers 21 (leadingZeros 32 u) (52 - (31 - leadingZeros 32 u)) (omega (arith, leading-few)))
+
+  pub bits-made : unitsBits u ≡ 1023 * leadingOne - leadingZeros 32 u * leadingOne + shiftedUp u
+  unfolding highestBit
+  bits-made = bits-are ∙ omega (arith, leading-few, shifted-low, shifted-high)
+
   few : digits < leadingOne
   few = mod-lt (shiftedUp u) (pow-pos 52)
 

@@ -4,8 +4,13 @@ ghost use Prim.Native.Nat.{_≤_, _%_};
 ghost use Rattle.rounding.specs.Rounding.{unitsInOne};
 ghost use Rattle.flips.specs.Written.{unitsBits, unitsKind, unitsField};
 
-// 2^52: an f64's digits are below it, and it stands before them.
+// 2^52: an f64's digits are below it, and it stands before them. A number of 32 bits without a leading zero is 2^21 times smaller.
 const LEADING_ONE: u64 = 0x10_0000_0000_0000;
+
+const BELOW_LEADING: u64 = 0x20_0000;
+
+// The f64 1: exponent 1023, no digit.
+const BITS_OF_ONE: u64 = 0x3ff0_0000_0000_0000;
 
 fn low(x: u64) -> u8
     ensures { λ r. ⌜ r ≡ x % 256 ⌝ }
@@ -13,7 +18,8 @@ fn low(x: u64) -> u8
     (x % 256) as u8
 }
 
-// The bits of the f64 that is units / U: whole numbers alone, so that no rounding mode matters.
+// The bits of the f64 that is units / U: whole numbers alone, so that no rounding mode matters. Shifted up, the highest bit of the units is the leading one
+// and counts as one in the exponent's field; 2^30, with its one leading zero, so becomes the f64 1, and every further zero halves it.
 pub fn units_bits(units: u32) -> u64
     requires { ⌜ units ≤ unitsInOne ⌝ }
     ensures { λ r. ⌜ r ≡ unitsBits units ⌝ }
@@ -21,9 +27,9 @@ pub fn units_bits(units: u32) -> u64
     if units == 0 {
         return 0;
     }
-    let highest = (31 - u32::leading_zeros(units)) as u64;
-    let digits = (units as u64) << (52 - highest);
-    (highest + 993) * LEADING_ONE + digits % LEADING_ONE
+    let zeros = u32::leading_zeros(units) as u64;
+    let digits = (units as u64 * BELOW_LEADING) << zeros;
+    BITS_OF_ONE - zeros * LEADING_ONE + digits
 }
 
 pub fn units_kind(units: u32) -> u8

@@ -2,12 +2,11 @@
 use Prim.Native.Nat.{ℕ, _+_, _-_, _*_, _%_, _^_, _<_, _≤_}
 use mathlib.Core.Path.{_≡_, sym, ap, _∙_}
 use native.Mathlib.Omega.{arith}
-use borrow.Author.Needs.{needs}
 use lib.Count.{leadingZeros}
 use lib.Dec.{lit≤}
 use native.Mathlib.Nat.{mod-eq-of-lt, lt-of-lt-of-le}
-use Rattle.flips.specs.Written.{highestBit, leadingOne, shiftedUp, unitsBits}
-use Rattle.flips.proofs.Laws.{leading-few, highest-most, shifted-high, bits-are}
+use Rattle.flips.specs.Written.{leadingOne, shiftedUp, unitsBits}
+use Rattle.flips.proofs.Laws.{leading-few, shifted-high, shifted-is, bits-made}
 use Rattle.flips.proofs.units_bits.Statement.{statement}
 use Rattle.flips.proofs.units_bits.Tie as tie
 
@@ -25,38 +24,33 @@ module _ (c : tie.Else1) where
   few : leadingZeros 32 u ≤ 31
   few = leading-few u above (c .before .pre)
 
-  most : 31 - leadingZeros 32 u ≤ 30
-  unfolding highestBit
-  most = highest-most u above (c .before .pre)
+  high : shiftedUp u < 2 ^ 53
+  high = shifted-high u above (c .before .pre)
 
-  shifted : u * 2 ^ (52 - (31 - leadingZeros 32 u)) % 2 ^ 64 ≡ shiftedUp u
-  unfolding highestBit shiftedUp
-  shifted = kept
-    where
-      kept : u * 2 ^ (52 - (31 - leadingZeros 32 u)) % 2 ^ 64 ≡ u * 2 ^ (52 - (31 - leadingZeros 32 u))
-      kept = mod-eq-of-lt (lt-of-lt-of-le (shifted-high u above (c .before .pre)) (lit≤ tt))
+  shifted : u * 2 ^ 21 * 2 ^ leadingZeros 32 u % 2 ^ 64 ≡ shiftedUp u
+  shifted = ap (λ (z : ℕ). z % 2 ^ 64) (shifted-is u above (c .before .pre)) ∙ mod-eq-of-lt (lt-of-lt-of-le high (lit≤ tt))
 
-sub-highest : tie.Need-sub-highest
-sub-highest c = few c
+cast-zeros : tie.Need-cast-zeros
+cast-zeros c = omega (arith, few c)
 
-sub-digits : tie.Need-sub-digits
-sub-digits c = omega (arith, most c)
+mul-digits : tie.Need-mul-digits
+mul-digits c = omega (arith, c .before .pre)
 
 shl-digits : tie.Need-shl-digits
-shl-digits c = omega arith
-
-add-result : tie.Need-add-result
-add-result c = omega (arith, most c)
+shl-digits c = omega (arith, few c)
 
 mul-result : tie.Need-mul-result
-mul-result c = omega (arith, most c)
+mul-result c = omega (arith, few c)
 
-add-result-2 : tie.Need-add-result-2
-add-result-2 c = omega (arith, most c)
+sub-result : tie.Need-sub-result
+sub-result c = omega (arith, few c)
+
+add-result : tie.Need-add-result
+add-result c = omega (arith, few c, shifted c, high c)
 
 returns-2 : tie.Need-returns-2
-unfolding highestBit
-returns-2 c = ap (λ (z : ℕ). (31 - leadingZeros 32 (u c) + 993) * leadingOne + z % leadingOne) (shifted c) ∙ sym (bits-are (u c) (above c) (c .before .pre))
+returns-2 c =
+    ap (λ (z : ℕ). 1023 * leadingOne - leadingZeros 32 (u c) * leadingOne + z) (shifted c) ∙ sym (bits-made (u c) (above c) (c .before .pre))
 
 pub units-bits-spec : {M : Type 1} → statement M
-units-bits-spec = tie.close (tie.spec returns sub-highest (λ c. search needs) sub-digits shl-digits add-result mul-result add-result-2 returns-2)
+units-bits-spec = tie.close (tie.spec returns cast-zeros mul-digits shl-digits mul-result sub-result add-result returns-2)
