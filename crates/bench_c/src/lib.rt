@@ -3,6 +3,7 @@ ghost use mathlib.Core.Path.{_≡_};
 ghost use lib.ListN.{length};
 ghost use Prim.Native.Nat.{_/_, _%_};
 ghost use Rattle.refusal.specs.Judgement.{unlessRefused};
+ghost use Rattle.flips.specs.Written.{fieldBytes};
 ghost use Rattle.area.specs.Layout.{pattern as patternWord, reliabilityWord, figure};
 ghost use Rattle.calls.specs.Judgements.{open-image, toggle-input, set-flip, read-netlist, read-gate, take-average, count-seen, write-image, judgement};
 ghost use Rattle.calls.specs.Calls.{openLive, averageOf, left, countsLeft};
@@ -10,7 +11,7 @@ ghost use Rattle.bench.specs.Answers.{counted};
 ghost use Rattle.written.specs.Image.{areaImageLength};
 ghost use Rattle.written.specs.Call.{imageLeft};
 ghost use Rattle.blif.specs.Reading.{textLines, modelLength, blifRefusal, blifLeft};
-ghost use Rattle.bench_c.specs.Codes.{refusalCode, code, fieldBytes, FloatBy};
+ghost use Rattle.bench_c.specs.Codes.{refusalCode, code, FloatBy};
 use bench::Averaged;
 use bench::Counted;
 use bench::FlipSet;
@@ -61,36 +62,13 @@ pub extern "C" fn bench_toggle_input(area: &mut [u32], input: u32) -> u64
     }
 }
 
-// Byte 0 of a number.
-fn low_byte(x: u64) -> u8
-    ensures { λ r. ⌜ r ≡ x % 256 ⌝ }
-{
-    (x % 256) as u8
-}
-
-// The eight bytes of a flip's field: C passes no array by value, so they come as one little-endian number.
-fn field_bytes(field: u64) -> [u8; 8]
-    ensures { λ r. ⌜ r ≡ fieldBytes field ⌝ }
-{
-    [
-        low_byte(field),
-        low_byte(field / 256),
-        low_byte(field / 65_536),
-        low_byte(field / 16_777_216),
-        low_byte(field / 4_294_967_296),
-        low_byte(field / 1_099_511_627_776),
-        low_byte(field / 281_474_976_710_656),
-        low_byte(field / 72_057_594_037_927_936),
-    ]
-}
-
-// Sets one gate's flip.
+// Sets one gate's flip. C passes no array by value, so the eight bytes of the field come as one little-endian number.
 #[no_mangle]
 pub extern "C" fn bench_set_flip(area: &mut [u32], gate: u32, kind: u8, field: u64) -> u64
     ensures { λ r. ⌜ r ≡ code (judgement (now (area .entry)) (set-flip gate kind (fieldBytes field))) ⌝ }
     ensures { λ _. ⌜ now (area .exit) ≡ left (now (area .entry)) (set-flip gate kind (fieldBytes field)) ⌝ }
 {
-    let answer = bench::set_flip(area, gate, kind, field_bytes(field));
+    let answer = bench::set_flip(area, gate, kind, flips::field_bytes(field));
     match answer {
         FlipSet::Done => 0,
         FlipSet::Refused(number, place) => refused(number, place),

@@ -1,7 +1,16 @@
--- A flip that is given in units, as the kind and the eight bytes of a flip field: change request 7. Zero units are kind 0, others the f64 that is units / U.
+-- The eight bytes of a flip field from one number; and a flip that is given in units, as kind and field: change request 7. Zero units are kind 0, others the
+-- f64 that is units / U.
 use Prim.Native.Nat.{ℕ, zero, suc, _+_, _-_, _*_, _/_, _%_, _^_}
 use mathlib.Core.List.{List, [], _∷_}
 use lib.Count.{leadingZeros}
+
+-- the k lowest bytes of a number, the lowest first; a field has eight
+abbrev pub lowBytes : ℕ → ℕ → List ℕ
+lowBytes zero x = []
+lowBytes (suc k) x = x % 256 ∷ lowBytes k (x / 256)
+
+abbrev pub fieldBytes : ℕ → List ℕ
+fieldBytes x = lowBytes 8 x
 
 -- the position of the highest bit of a number of 32 bits: 2^highestBit is the largest power of two that it reaches
 unfoldable pub highestBit : ℕ → ℕ
@@ -21,14 +30,9 @@ unfoldable pub unitsBits : ℕ → ℕ
 unitsBits zero = 0
 unitsBits (suc u) = (highestBit (suc u) + 993) * leadingOne + shiftedUp (suc u) % leadingOne
 
--- the k lowest bytes of a number, the lowest first
-abbrev pub lowBytes : ℕ → ℕ → List ℕ
-lowBytes zero x = []
-lowBytes (suc k) x = x % 256 ∷ lowBytes k (x / 256)
-
 unfoldable pub unitsKind : ℕ → ℕ
 unitsKind zero = 0
 unitsKind (suc u) = 1
 
 abbrev pub unitsField : ℕ → List ℕ
-unitsField u = lowBytes 8 (unitsBits u)
+unitsField u = fieldBytes (unitsBits u)

@@ -1,8 +1,8 @@
-// A flip in units, written as the kind and the eight bytes of a flip field.
+// The eight bytes of a flip field, and a flip in units as a kind and such bytes.
 ghost use mathlib.Core.Path.{_≡_};
 ghost use Prim.Native.Nat.{_≤_, _%_};
 ghost use Rattle.rounding.specs.Rounding.{unitsInOne};
-ghost use Rattle.flips.specs.Written.{unitsBits, unitsKind, unitsField};
+ghost use Rattle.flips.specs.Written.{fieldBytes, unitsBits, unitsKind, unitsField};
 
 // 2^52: an f64's digits are below it, and it stands before them. A number of 32 bits without a leading zero is 2^21 times smaller.
 const LEADING_ONE: u64 = 0x10_0000_0000_0000;
@@ -16,6 +16,29 @@ fn low(x: u64) -> u8
     ensures { λ r. ⌜ r ≡ x % 256 ⌝ }
 {
     (x % 256) as u8
+}
+
+// The eight bytes of a field that is given as one number.
+pub fn field_bytes(bits: u64) -> [u8; 8]
+    ensures { λ r. ⌜ r ≡ fieldBytes bits ⌝ }
+{
+    let b1 = bits / 256;
+    let b2 = b1 / 256;
+    let b3 = b2 / 256;
+    let b4 = b3 / 256;
+    let b5 = b4 / 256;
+    let b6 = b5 / 256;
+    let b7 = b6 / 256;
+    [
+        low(bits),
+        low(b1),
+        low(b2),
+        low(b3),
+        low(b4),
+        low(b5),
+        low(b6),
+        low(b7),
+    ]
 }
 
 // The bits of the f64 that is units / U: whole numbers alone, so that no rounding mode matters. Shifted up, the highest bit of the units is the leading one
@@ -45,22 +68,5 @@ pub fn units_field(units: u32) -> [u8; 8]
     requires { ⌜ units ≤ unitsInOne ⌝ }
     ensures { λ r. ⌜ r ≡ unitsField units ⌝ }
 {
-    let b0 = units_bits(units);
-    let b1 = b0 / 256;
-    let b2 = b1 / 256;
-    let b3 = b2 / 256;
-    let b4 = b3 / 256;
-    let b5 = b4 / 256;
-    let b6 = b5 / 256;
-    let b7 = b6 / 256;
-    [
-        low(b0),
-        low(b1),
-        low(b2),
-        low(b3),
-        low(b4),
-        low(b5),
-        low(b6),
-        low(b7),
-    ]
+    field_bytes(units_bits(units))
 }

@@ -6,7 +6,7 @@ use Rattle.refusal.specs.declared.Judgement.{Judgement}
 use Rattle.calls.specs.Judgements.{Call, set-flip, judgement}
 use Rattle.calls.specs.Calls.{left}
 use Rattle.bench.specs.Answers.{flipSet}
-use Rattle.bench_c.specs.Codes.{fieldBytes}
+use Rattle.flips.specs.Written.{fieldBytes}
 use Rattle.bench_c.proofs.Answered.{set-told}
 use borrow.Author.Needs.{needs}
 use Rattle.bench_c.proofs.bench_set_flip.Statement.{statement}

@@ -1,40 +1,12 @@
 -- `flips::units_field` meets its contract. Assumes nothing.
+use mathlib.Core.Path.{ap, _∙_}
 use borrow.Author.Needs.{needs}
+use Rattle.flips.specs.Written.{fieldBytes}
 use Rattle.flips.proofs.units_field.Statement.{statement}
 use Rattle.flips.proofs.units_field.Tie as tie
 
 returns : tie.Need-returns
-returns c =
-    let at7 = c .before in
-    let at6 = at7 .before in
-    let at5 = at6 .before in
-    let at4 = at5 .before in
-    let at3 = at4 .before in
-    let at2 = at3 .before in
-    let at1 = at2 .before in
-    rw (
-      c .low8 .ensures,
-      at7 .low7 .ensures,
-      at6 .low6 .ensures,
-      at5 .low5 .ensures,
-      at4 .low4 .ensures,
-      at3 .low3 .ensures,
-      at2 .low2 .ensures,
-      at1 .low .ensures,
-      at1 .before .units-bits .ensures,
-    )
+returns c = c .field-bytes .ensures ∙ ap fieldBytes (c .before .units-bits .ensures)
 
 pub units-field-spec : {M : Type 1} → statement M
-units-field-spec =
-    tie.close
-    (tie.spec
-    (λ c κs. search needs)
-    (λ c κs. search needs)
-    (λ c κs. search needs)
-    (λ c κs. search needs)
-    (λ c κs. search needs)
-    (λ c κs. search needs)
-    (λ c κs. search needs)
-    (λ c κs. search needs)
-    (λ c κs. search needs)
-    returns)
+units-field-spec = tie.close (tie.spec (λ c κs. search needs) (λ c κs. search needs) returns)
