@@ -292,8 +292,8 @@ uint64_t bench_counts_by_mask(const uint32_t *area, size_t area_len, const uint3
  * units BENCH_FLIP_NEVER with the field 0, for every other BENCH_FLIP_CHANCE with the double that is
  * exactly units / 2^30. The pattern, the reliability and the failures are not written.
  *
- * Two areas that 14 does not refuse give the same bytes exactly if their counts, pin counts, tables,
- * pins, flip units and outputs are the same, whatever images they came from. bench_open accepts the
+ * The bytes of two areas that 14 does not refuse are the same just where their counts, pin counts,
+ * tables, pins, flip units and outputs are, whatever images they came from. bench_open accepts the
  * image wherever the area has room and its netlist has no shared gate, so always where the area came
  * from bench_open. It then holds what the first area holds once its pattern is 0 and every figure is
  * worked out. An area that these calls have left is led there by bench_toggle_input on each input that

@@ -234,8 +234,8 @@ pub fn counts_by_mask(area: &[u32], patterns: &[u32], counts: &mut [u32]) -> Res
 /// empty, and a flip of 0 units is [`Flip::Never`], any other the chance that is exactly units / 2^30.
 /// Pattern, reliability and failures are not written.
 ///
-/// So two areas give the same bytes exactly if their counts, pin counts, tables, pins, flip units and
-/// outputs are the same, whatever images they came from. From an area that [`open`] filled, [`open`]
+/// So the bytes of two areas are the same just where their counts, pin counts, tables, pins, flip units
+/// and outputs are, whatever images they came from. From an area that [`open`] filled, [`open`]
 /// accepts the image in any area with room, which then holds what the first one holds once every input
 /// that is 1 is toggled; written from there the bytes are the same again.
 ///

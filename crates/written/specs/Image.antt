@@ -7,7 +7,7 @@ use Rattle.flips.specs.Written.{unitsKind, unitsField}
 use Rattle.image.specs.Image.{imageLength}
 use Rattle.records.specs.Bytes.{Contents, imageWith}
 
--- counts, gates without figures, flips and outputs; pattern, reliability and figures are not written
+-- what of an area is written: its counts, each gate's shape and flip, its outputs; no pattern, and nothing that is worked out
 abbrev pub areaContents : List ℕ → Contents
 areaContents ws =
     record {

@@ -11,7 +11,7 @@ use Rattle.image.specs.Refusals.{imageRefusal}
 use Rattle.records.specs.Passes.{ReadAs}
 use Rattle.written.specs.Image.{areaContents, areaImage}
 
--- equal counts, gates without figures, flips and outputs
+-- what is written of two areas is the same: gate by gate, and in counts and outputs
 pub record SameGate (vs ws : List ℕ) (j : ℕ) : Type 0 where
   pub same-count : pinCount vs j ≡ pinCount ws j
   pub same-table : table vs j ≡ table ws j
@@ -34,7 +34,7 @@ pub record AreaWritten (ws : List ℕ) : Type 0 where
 abbrev pub WrittenAgain : Type 0
 WrittenAgain = (ws : List ℕ) → areaJudgement ws ≡ Fine → AreaWritten ws
 
--- two areas give equal bytes exactly if what is written of them is equal
+-- that it is the same, and that the bytes are, follow from each other
 pub record EqualBytes (vs ws : List ℕ) : Type 0 where
   pub told : areaImage vs ≡ areaImage ws → SameWritten vs ws
   pub made : SameWritten vs ws → areaImage vs ≡ areaImage ws

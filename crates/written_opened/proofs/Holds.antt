@@ -44,7 +44,7 @@ module _ (ws kinds chances : List ℕ) (s : Sound ws) (converted : Converted cha
       let chance : getD (imageChances bs) j 0 ≡ wholeChance (flip ws j) unitsInOne
       = chance-at bs j there
       ∙ ap₂ flipChance (gate .kind) (gate .field)
-      ∙ chance-in-units (flip ws j) (s .workable .figures .flip-fits j here) in
+      ∙ chance-in-units (flip ws j) (omega (arith, s .workable .figures .flip-fits j here)) in
       rw (kind, chance, units)
 
   gates-are : (j k : ℕ) → j + k ≤ gates ws → gatesFrom ws (imageKinds bs) (imageChances bs) j k ≡ map gateInUnits (gatesFrom ws kinds chances j k)
