@@ -4,10 +4,11 @@ ghost use Prim.Native.Nat.{_≤_, _%_};
 ghost use Rattle.rounding.specs.Rounding.{unitsInOne};
 ghost use Rattle.flips.specs.Written.{fieldBytes, unitsBits, unitsKind, unitsField};
 
-// 2^52: an f64's digits are below it, and it stands before them. A number of 32 bits without a leading zero is 2^21 times smaller.
+// 2^52: an f64's digits are below it, and it stands before them.
 const LEADING_ONE: u64 = 0x10_0000_0000_0000;
 
-const BELOW_LEADING: u64 = 0x20_0000;
+// 2^21: takes bit 31 of a number there.
+const TO_LEADING_ONE: u64 = 0x20_0000;
 
 // The f64 1: exponent 1023, no digit.
 const BITS_OF_ONE: u64 = 0x3ff0_0000_0000_0000;
@@ -51,7 +52,7 @@ pub fn units_bits(units: u32) -> u64
         return 0;
     }
     let zeros = u32::leading_zeros(units) as u64;
-    let digits = (units as u64 * BELOW_LEADING) << zeros;
+    let digits = (units as u64 * TO_LEADING_ONE) << zeros;
     BITS_OF_ONE - zeros * LEADING_ONE + digits
 }
 

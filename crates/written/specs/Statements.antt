@@ -34,7 +34,7 @@ pub record AreaWritten (ws : List ℕ) : Type 0 where
 abbrev pub WrittenAgain : Type 0
 WrittenAgain = (ws : List ℕ) → areaJudgement ws ≡ Fine → AreaWritten ws
 
--- that it is the same, and that the bytes are, follow from each other
+-- from the bytes of two areas it can be told that the same was written, and where the same is written the bytes are equal
 pub record EqualBytes (vs ws : List ℕ) : Type 0 where
   pub told : areaImage vs ≡ areaImage ws → SameWritten vs ws
   pub made : SameWritten vs ws → areaImage vs ≡ areaImage ws

@@ -3,3 +3,4 @@ pub mod Opened
 pub mod RoundTrip
 pub mod Holds
 pub mod Turned
+pub mod Sheets

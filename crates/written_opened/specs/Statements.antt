@@ -36,14 +36,14 @@ atPatternZero ws = workAll (set ws patternIndex 0)
 
 -- ---- the netlist that is written
 
--- a chance, a whole number of 2^-1074, in units; and the gate whose chance is just so many units, with the kind that it is written with
+-- a gate's chance, a whole number of 2^-1074, in units; and the gate whose chance is just so many, with the kind that it is written with
 abbrev pub gateUnits : Gate → ℕ
 gateUnits g = toUnits unitsInOne chanceScale (g .chance)
 
 abbrev pub gateInUnits : Gate → Gate
 gateInUnits g = record { pins = g .pins; table = g .table; kind = unitsKind (gateUnits g); chance = wholeChance (gateUnits g) unitsInOne }
 
--- nothing of a netlist is lost but what its chances lose when they become units
+-- nothing of a netlist is lost but the kinds, and what its chances lose when they become units
 abbrev pub inUnits : Netlist → Netlist
 inUnits net = record { inputs = net .inputs; gates = map gateInUnits (net .gates); outputs = net .outputs }
 
