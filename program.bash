@@ -1,4 +1,4 @@
-# What the scripts ./sheet and ./blif share. Each runs a program of crates/, proved and built first where that is not done for the files as they are,
+# What the scripts ./sheet, ./blif and ./compare share. Each runs a program of crates/, proved and built first where that is not done for the files as they are,
 # with the progress on standard error. The script sets `script`, its own name; `crate`, the program's; `undone`, what a failure leaves undone; `usage`.
 root=$(cd "$(dirname "${BASH_SOURCE[0]}")" && pwd)
 program=$root/target/bin/$crate

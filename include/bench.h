@@ -1,5 +1,6 @@
 /*
- * The soft-error bench for C: nine calls on a work area of 32-bit words, and one that reads BLIF.
+ * The soft-error bench for C: nine calls on a work area of 32-bit words, one that reads BLIF, and two
+ * that take images and no area: one compares two of them.
  *
  * Link with target/staticlib/libbench_c.a, which `rt staticlib bench_c` writes (x86-64). Every
  * function below is proved to do what its contract in crates/bench_c/src/lib.rt says, for all
@@ -70,9 +71,11 @@
  * ANSWERS
  *
  * Each call returns 0 when its work is done. Otherwise it refuses, and the returned number holds the
- * refusal: BENCH_NUMBER says which one, BENCH_PLACE where. A refused call has changed nothing: no
- * word of the area, no count, no byte of an image, and nothing that an out-pointer points to. Of
- * several reasons the call gives the first in the order that stands with it.
+ * refusal: BENCH_NUMBER says which one, BENCH_PLACE where, and of bench_compare, which takes two
+ * images, BENCH_IMAGE which of them: BENCH_FIRST or BENCH_SECOND. Bits 0 to 31 hold the place, 32 to 39
+ * the number, 40 and 41 the image. A refused call has changed nothing: no word of the area, no count, no
+ * byte of an image, and nothing that an out-pointer points to. Of several reasons the call gives the
+ * first in the order that stands with it.
  *
  * BENCH_REFUSED_... name the numbers.
  *
@@ -118,9 +121,10 @@
  * type will do. Pointers are aligned for their type. What one pointer of a call can write must not
  * overlap what another pointer of the same call names, and no other thread touches it meanwhile.
  *
- * bench_average takes up to 160 KB of stack, bench_read_blif 96 KB, bench_open 46 KB,
- * bench_counts_by_flip and bench_counts_by_mask 42 KB, the other calls less. No call allocates memory,
- * and calls that name no area or slice in common may run at the same time.
+ * bench_compare takes up to 264 KB of stack, bench_average 168 KB, bench_read_blif 96 KB,
+ * bench_error_of_image 74 KB, bench_open 46 KB, bench_counts_by_flip and bench_counts_by_mask 42 KB,
+ * the other calls less. No call allocates memory, and calls that name no area or slice in common may
+ * run at the same time.
  */
 #ifndef BENCH_H
 #define BENCH_H
@@ -133,7 +137,7 @@ extern "C" {
 #endif
 
 /* Raised with every change to a function, a number, a layout or a figure that this file speaks of. */
-#define BENCH_VERSION 6
+#define BENCH_VERSION 7
 
 #define BENCH_ONE UINT32_C(1073741824)
 #define BENCH_INPUTS_MAX 12
@@ -155,8 +159,14 @@ extern "C" {
 #define BENCH_FLIP_CHANCE 1
 #define BENCH_FLIP_STRIKE 2
 
-#define BENCH_NUMBER(answer) ((uint32_t)((uint64_t)(answer) >> 32))
+#define BENCH_NUMBER(answer) ((uint32_t)((uint64_t)(answer) >> 32 & 255))
 #define BENCH_PLACE(answer) ((uint32_t)((uint64_t)(answer) & UINT32_C(0xffffffff)))
+
+/* Of bench_compare: the image that is refused, and its verdicts. */
+#define BENCH_IMAGE(answer) ((uint32_t)((uint64_t)(answer) >> 40))
+#define BENCH_UNDECIDED 0
+#define BENCH_FIRST 1
+#define BENCH_SECOND 2
 
 #define BENCH_REFUSED_LENGTH 1
 #define BENCH_REFUSED_FORMAT 2
@@ -344,6 +354,53 @@ uint64_t bench_write_image(const uint32_t *area, size_t area_len, uint8_t *image
  *     20   image_len is less than the image's length                0
  */
 uint64_t bench_read_blif(const uint8_t *text, size_t text_len, uint8_t *image, size_t image_len, uint32_t *bytes);
+
+/*
+ * How far the figures of an image can be from the exact ones. It takes no area.
+ *
+ * Done: *halves is the error in half units: under every pattern the reliability of the image, opened,
+ * is at most so much away from the exact chance, with the chances before conversion and over all flip
+ * patterns; an average, one half unit more. It counts 2 for each live gate whose flip kind is not
+ * BENCH_FLIP_NEVER, 1 for each pin after the first with which a live gate reads a gate, and 1 for each
+ * output after the first that reads one. *live is the number of live gates.
+ *
+ * Refused: 1 to 9 as bench_open does.
+ */
+uint64_t bench_error_of_image(const uint8_t *image, size_t image_len, uint32_t *halves, uint32_t *live);
+
+/* One of two modules that are compared. */
+typedef struct bench_module {
+    uint32_t inputs, gates, outputs, live;
+    uint32_t average; /* in units, as bench_average gives it with weight 1 for every pattern */
+    uint32_t error;   /* in half units, as bench_error_of_image gives it */
+} bench_module;
+
+/* What bench_compare gives. */
+typedef struct bench_comparison {
+    uint32_t verdict; /* BENCH_FIRST, BENCH_SECOND or BENCH_UNDECIDED */
+    bench_module first, second;
+    uint32_t first_higher, second_higher, neither_higher; /* numbers of patterns */
+} bench_comparison;
+
+/*
+ * Which of two modules stands higher: whose reliability, averaged over all patterns with weight 1, is
+ * the greater one. It takes no area.
+ *
+ * Done: with averages a1 and a2 in units, and errors e1 and e2 in half units, the verdict is
+ *
+ *     BENCH_FIRST       if 2 * a1 > 2 * a2 + e1 + e2 + 2; then the first's exact average is greater
+ *     BENCH_SECOND      if 2 * a2 > 2 * a1 + e1 + e2 + 2; then the second's is
+ *     BENCH_UNDECIDED   otherwise; nothing is said of the exact averages
+ *
+ * Where both have the same number of inputs, first_higher counts the patterns with 2 * r1 > 2 * r2 + e1 + e2,
+ * r1 and r2 being the reliabilities, second_higher those with 2 * r2 > 2 * r1 + e1 + e2, and neither_higher the
+ * others; under each pattern of the first two the exact chances differ in the same direction. With unlike
+ * inputs all three are 0.
+ *
+ * Refused: 1 to 9 of the first image as bench_open does, then of the second. BENCH_IMAGE says which it is.
+ */
+uint64_t bench_compare(const uint8_t *first, size_t first_len, const uint8_t *second, size_t second_len,
+                       bench_comparison *result);
 
 #ifdef __cplusplus
 }

@@ -140,6 +140,47 @@ static void texts(void) {
     expect("BENCH_TEXT_MAX", bench_read_blif(bytes, BENCH_TEXT_MAX + 1, image, most, &written), BENCH_REFUSED_TEXT_LINE, 0);
 }
 
+/* Compares two images, one of them perhaps cut short by a byte; the result must stay as it was where one is refused. */
+static uint64_t compared(size_t first_len, size_t second_len, bench_comparison *result) {
+    bench_comparison before;
+    uint64_t answer;
+    memset(&before, 77, sizeof before);
+    *result = before;
+    answer = bench_compare(WHOLE, first_len, WHOLE, second_len, result);
+    if (answer && memcmp(result, &before, sizeof before)) exit(printf("header: a refused comparison changes its result\n"));
+    return answer;
+}
+
+static void comparisons(void) {
+    static const bench_module printed = {2, 3, 1, 3, 671088640, 5};
+    static const bench_comparison same = {BENCH_UNDECIDED, {2, 3, 1, 3, 671088640, 5}, {2, 3, 1, 3, 671088640, 5}, 0, 0, 4};
+    bench_comparison result;
+    uint32_t halves = 77, live = 77;
+    uint8_t never[LENGTH];
+    uint64_t answer = compared(LENGTH, LENGTH, &result);
+    expect("the image and itself", answer, 0, 0);
+    if (memcmp(&result, &same, sizeof same)) exit(printf("header: the image and itself: verdict %u\n", result.verdict));
+    answer = compared(LENGTH - 1, LENGTH - 1, &result);
+    if (BENCH_IMAGE(answer) != BENCH_FIRST || BENCH_NUMBER(answer) != BENCH_REFUSED_LENGTH || BENCH_PLACE(answer))
+        exit(printf("header: the first image is not named\n"));
+    answer = compared(LENGTH, LENGTH - 1, &result);
+    if (BENCH_IMAGE(answer) != BENCH_SECOND || BENCH_NUMBER(answer) != BENCH_REFUSED_LENGTH || BENCH_PLACE(answer))
+        exit(printf("header: the second image is not named\n"));
+    memcpy(never, WHOLE, LENGTH);
+    memset(never + 12, 0, 8);
+    never[1] = BENCH_FLIP_NEVER; /* the buffer on input 0 does not flip any more */
+    expect("one flip less", bench_compare(never, LENGTH, WHOLE, LENGTH, &result), 0, 0);
+    if (result.verdict != BENCH_FIRST || result.first.error != 3 || result.first_higher != 3 || memcmp(&result.second, &printed, sizeof printed))
+        exit(printf("header: one flip less does not stand higher\n"));
+    expect("one flip more", bench_compare(WHOLE, LENGTH, never, LENGTH, &result), 0, 0);
+    if (result.verdict != BENCH_SECOND || result.second.error != 3 || result.second_higher != 3 || memcmp(&result.first, &printed, sizeof printed))
+        exit(printf("header: one flip more does not stand lower\n"));
+    expect("the error of the image", bench_error_of_image(WHOLE, LENGTH, &halves, &live), 0, 0);
+    if (halves != 5 || live != 3) exit(printf("header: the error is %u, the live gates %u\n", halves, live));
+    expect("no error", bench_error_of_image(WHOLE, LENGTH - 1, &halves, &live), BENCH_REFUSED_LENGTH, 0);
+    if (halves != 5 || live != 3) exit(printf("header: a refused image changes a result\n"));
+}
+
 int main(void) {
     images();
     calls();
@@ -147,6 +188,7 @@ int main(void) {
     counts(bench_counts_by_flip);
     counts(bench_counts_by_mask);
     texts();
+    comparisons();
     printf("header: every name is the library's\n");
     return 0;
 }

@@ -1,6 +1,7 @@
-/* How much stack the calls take: each runs on a thread whose stack is painted, on every netlist of the timing programs, or on a text that is written, one
- * that is refused for a loop and one that is refused at once, and the bytes below its caller that lost their paint are counted. The arguments are the figures
- * that the header states, in KB of 1024 bytes, in the order of `calls`; none may be passed, and none may be more than 8 KB too large. */
+/* How much stack the calls take: each runs on a thread whose stack is painted, and the bytes below its caller that lost their paint are counted. Most run on
+ * every netlist of the timing programs, a comparison on each beside itself, and reading BLIF on a text that is written, one that is refused for a loop and one
+ * that is refused at once. The arguments are the figures that the header states, in KB of 1024 bytes, in the order of `calls`; none may be passed, and none
+ * may be more than 8 KB too large. */
 #define _GNU_SOURCE
 #include "../speed/netlists.h"
 #include <pthread.h>
@@ -19,12 +20,21 @@ static uint64_t average(uint32_t *units) { return bench_average(area, WORDS, wei
 static uint64_t by_flip(uint32_t *unused) { return *unused = 0, bench_counts_by_flip(area, WORDS, listed, LISTED, counts, G); }
 static uint64_t by_mask(uint32_t *unused) { return *unused = 0, bench_counts_by_mask(area, WORDS, listed, LISTED, counts, G); }
 static uint64_t read_blif(uint32_t *bytes) { return bench_read_blif((const uint8_t *)text, strlen(text), written, sizeof written, bytes); }
+static uint64_t error_of_image(uint32_t *halves) {
+    uint32_t live;
+    return bench_error_of_image(image, image_len, halves, &live);
+}
+static uint64_t compare(uint32_t *unused) {
+    static bench_comparison result;
+    return *unused = 0, bench_compare(image, image_len, image, image_len, &result);
+}
 
-enum { OPEN, AVERAGE, BY_FLIP, BY_MASK, READ_BLIF, CALLS };
+enum { OPEN, AVERAGE, BY_FLIP, BY_MASK, ERROR_OF_IMAGE, COMPARE, READ_BLIF, CALLS };
 static const struct {
     const char *name;
     uint64_t (*call)(uint32_t *result);
-} calls[CALLS] = {{"open", open_image}, {"average", average}, {"counts_by_flip", by_flip}, {"counts_by_mask", by_mask}, {"read_blif", read_blif}};
+} calls[CALLS] = {{"open", open_image}, {"average", average}, {"counts_by_flip", by_flip}, {"counts_by_mask", by_mask},
+                  {"error_of_image", error_of_image}, {"compare", compare}, {"read_blif", read_blif}};
 
 static size_t most[CALLS];
 
@@ -67,7 +77,7 @@ int main(int count, char **stated) {
     for (int q = 0; q < 1 << N; q++) weights[q] = 1;
     for (int kind = 0; kind < KINDS; kind++) {
         make_kind(kind);
-        for (int which = OPEN; which <= BY_MASK; which++) measure(which, 0);
+        for (int which = OPEN; which <= COMPARE; which++) measure(which, 0);
     }
     make_text(0), measure(READ_BLIF, 0);
     make_text(1), measure(READ_BLIF, BENCH_REFUSED_TEXT_MODEL);

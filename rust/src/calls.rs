@@ -1,8 +1,20 @@
-//! The ten C functions of include/bench.h, each behind a safe function.
+//! The C functions of include/bench.h, each behind a safe function.
 
-use crate::{Flip, Refusal};
+use crate::{Flip, ImageRefusal, Refusal, Which};
 
 mod c {
+    /// `bench_comparison` of include/bench.h.
+    #[repr(C)]
+    #[derive(Default)]
+    pub struct Comparison {
+        pub verdict: u32,
+        pub first: super::Module,
+        pub second: super::Module,
+        pub first_higher: u32,
+        pub second_higher: u32,
+        pub neither_higher: u32,
+    }
+
     extern "C" {
         pub fn bench_open(
             area: *mut u32,
@@ -69,6 +81,19 @@ mod c {
             image: *mut u8,
             image_len: usize,
             bytes: *mut u32,
+        ) -> u64;
+        pub fn bench_error_of_image(
+            image: *const u8,
+            image_len: usize,
+            halves: *mut u32,
+            live: *mut u32,
+        ) -> u64;
+        pub fn bench_compare(
+            first: *const u8,
+            first_len: usize,
+            second: *const u8,
+            second_len: usize,
+            result: *mut Comparison,
         ) -> u64;
     }
 }
@@ -274,4 +299,97 @@ pub fn read_blif(text: &[u8], image: &mut [u8]) -> Result<u32, Refusal> {
         c::bench_read_blif(text.as_ptr(), text.len(), image.as_mut_ptr(), image.len(), &mut bytes)
     };
     answer(returned, bytes)
+}
+
+/// How far the figures of a module can be from the exact ones.
+#[derive(Clone, Copy, Debug, PartialEq, Eq)]
+pub struct ErrorBound {
+    /// In half units, under every pattern; for an average one half unit more.
+    pub halves: u32,
+    /// Its live gates.
+    pub live: u32,
+}
+
+/// The verdict on two modules.
+#[derive(Clone, Copy, Debug, PartialEq, Eq)]
+pub enum Verdict {
+    /// The exact average of the first is greater.
+    First,
+    /// The exact average of the second is greater.
+    Second,
+    /// The errors leave it open.
+    Undecided,
+}
+
+/// Patterns by who is surely the more reliable under them.
+#[derive(Clone, Copy, Debug, PartialEq, Eq)]
+pub struct PatternCounts {
+    pub first: u32,
+    pub second: u32,
+    pub neither: u32,
+}
+
+/// One of two modules that are compared.
+#[repr(C)]
+#[derive(Clone, Copy, Debug, Default, PartialEq, Eq)]
+pub struct Module {
+    pub inputs: u32,
+    pub gates: u32,
+    pub outputs: u32,
+    pub live: u32,
+    /// Its reliability, averaged over all patterns, in units.
+    pub average: u32,
+    /// How far its figures can be from the exact ones, in half units.
+    pub error: u32,
+}
+
+/// What two modules come to beside each other.
+#[derive(Clone, Copy, Debug, PartialEq, Eq)]
+pub struct Comparison {
+    pub verdict: Verdict,
+    pub first: Module,
+    pub second: Module,
+    /// Where both have the same number of inputs.
+    pub patterns: Option<PatternCounts>,
+}
+
+/// The error of an image's figures as it is opened, by its flip kinds. It takes no area.
+///
+/// Refused: 1 to 9 as [`open`] does.
+pub fn error_of_image(image: &[u8]) -> Result<ErrorBound, Refusal> {
+    let (mut halves, mut live) = (0, 0);
+    // SAFETY: the slice goes with its own length, and both results outlive the call.
+    let returned =
+        unsafe { c::bench_error_of_image(image.as_ptr(), image.len(), &mut halves, &mut live) };
+    answer(returned, ErrorBound { halves, live })
+}
+
+/// Which of two modules stands higher, on the average of all patterns: decided where twice the
+/// averages differ by more than both errors and 2, and then the exact averages differ in the same
+/// direction. It takes no area, and up to 264 KB of stack.
+///
+/// Refused: 1 to 9 of the first image as [`open`] does, then of the second.
+pub fn compare(first: &[u8], second: &[u8]) -> Result<Comparison, ImageRefusal> {
+    let mut to = c::Comparison::default();
+    // SAFETY: both slices go with their own lengths, and the result outlives the call.
+    let returned = unsafe {
+        c::bench_compare(first.as_ptr(), first.len(), second.as_ptr(), second.len(), &mut to)
+    };
+    let which = if returned >> 40 == 1 { Which::First } else { Which::Second };
+    answer(returned, ()).map_err(|refusal| ImageRefusal { image: which, refusal })?;
+    let counts = PatternCounts {
+        first: to.first_higher,
+        second: to.second_higher,
+        neither: to.neither_higher,
+    };
+    Ok(Comparison {
+        verdict: match to.verdict {
+            1 => Verdict::First,
+            2 => Verdict::Second,
+            _ => Verdict::Undecided,
+        },
+        first: to.first,
+        second: to.second,
+        patterns: (to.first.inputs == to.second.inputs).then_some(counts),
+    })
 }

@@ -1,8 +1,9 @@
 //! The proved soft-error bench for Rust: nine calls on a work area that the caller owns, one that makes
-//! a netlist image from BLIF, and images made from text.
+//! a netlist image from BLIF, and images made from text; and, of images alone, how far their figures can be
+//! from the exact ones and which of two modules stands higher.
 //!
 //! Every call answers a [`Result`]: its result, or a [`Refusal`] with the number and place that
-//! docs/SCOPE.md gives. A refused call has changed nothing. Figures are whole numbers of units, of
+//! docs/SCOPE.md gives; of two images, an [`ImageRefusal`], which says which one it is. A refused call has changed nothing. Figures are whole numbers of units, of
 //! which [`ONE`] make 1; what is rounded goes to the nearest unit, and a half to the even unit.
 //!
 //! ```
@@ -95,6 +96,26 @@
 //! assert_eq!((refusal.number, refusal.place), (19, 2)); // it has no output
 //! # Ok::<(), Box<dyn std::error::Error>>(())
 //! ```
+//!
+//! Which of two modules is more reliable? The answer is one where the errors of the figures leave no doubt:
+//!
+//! ```
+//! use filzaod::{compare, error_of_image, text, Verdict};
+//!
+//! let sure = text::read("inputs 1\n gate same 2 pins 0 never\n output same")?.image;
+//! let rare = text::read("inputs 1\n gate same 2 pins 0 chance 0.001\n output same")?.image;
+//! let slight = text::read("inputs 1\n gate same 2 pins 0 chance 1e-9\n output same")?.image;
+//! assert_eq!(error_of_image(&rare)?.halves, 2); // a gate that flips
+//!
+//! let answer = compare(&rare, &sure)?;
+//! assert_eq!(answer.verdict, Verdict::Second);
+//! assert_eq!(answer.patterns.map(|counts| counts.second), Some(2)); // under both patterns
+//! assert_eq!(compare(&sure, &slight)?.verdict, Verdict::Undecided); // one unit apart
+//!
+//! let refusal = compare(&sure, &sure[1..]).unwrap_err();
+//! assert_eq!(refusal.to_string().split(':').next(), Some("the second image"));
+//! # Ok::<(), Box<dyn std::error::Error>>(())
+//! ```
 
 mod calls;
 mod flip;
@@ -103,10 +124,11 @@ mod refusal;
 pub mod text;
 
 pub use calls::{average, counts_by_flip, counts_by_mask, read_blif, write_image};
+pub use calls::{compare, error_of_image, Comparison, ErrorBound, Module, PatternCounts, Verdict};
 pub use calls::{open, read_gate, read_netlist, set_flip, toggle_input};
 pub use calls::{GateReading, NetlistReading};
 pub use flip::Flip;
-pub use refusal::Refusal;
+pub use refusal::{ImageRefusal, Refusal, Which};
 
 /// One, in units.
 pub const ONE: u32 = 1 << 30;

@@ -50,3 +50,29 @@ impl fmt::Display for Refusal {
 }
 
 impl std::error::Error for Refusal {}
+
+/// One of two images.
+#[derive(Clone, Copy, Debug, PartialEq, Eq)]
+pub enum Which {
+    First,
+    Second,
+}
+
+/// Why two images were not compared: a refusal of one of them.
+#[derive(Clone, Copy, Debug, PartialEq, Eq)]
+pub struct ImageRefusal {
+    pub image: Which,
+    pub refusal: Refusal,
+}
+
+impl fmt::Display for ImageRefusal {
+    fn fmt(&self, f: &mut fmt::Formatter<'_>) -> fmt::Result {
+        let which = match self.image {
+            Which::First => "first",
+            Which::Second => "second",
+        };
+        write!(f, "the {which} image: {}", self.refusal)
+    }
+}
+
+impl std::error::Error for ImageRefusal {}

@@ -1,6 +1,7 @@
-//! The ten calls through the safe functions: what they answer, and that a refused one changes nothing.
+//! The calls through the safe functions: what they answer, and that a refused one changes nothing.
 
 use filzaod::{average, counts_by_flip, counts_by_mask, read_blif, write_image, written};
+use filzaod::{compare, error_of_image, ErrorBound, Module, PatternCounts, Verdict, Which};
 use filzaod::{open, read_gate, read_netlist, set_flip, text, toggle_input, words};
 use filzaod::{Flip, GateReading, Refusal, MAX_LISTED, MAX_WEIGHT, MAX_WORDS, ONE};
 
@@ -253,4 +254,34 @@ fn a_blif_text_becomes_an_image() {
     assert_eq!(short, [0xAB; 97]);
     let last = &text[..text.len() - 5];
     assert_eq!(read_blif(last, &mut image), Err(Refusal { number: 18, place: 14 }));
+}
+
+#[test]
+fn two_modules_are_compared() {
+    let image = |chance: &str| {
+        let text = format!("inputs 2\ngate both 8 pins 0 1 {chance}\noutput both\noutput 0\n");
+        filzaod::text::read(&text).unwrap().image
+    };
+    let (never, often) = (image("never"), image("chance 0.25"));
+    assert_eq!(error_of_image(&never), Ok(ErrorBound { halves: 0, live: 1 }));
+    assert_eq!(error_of_image(&often), Ok(ErrorBound { halves: 2, live: 1 }));
+    let answer = compare(&never, &often).unwrap();
+    assert_eq!(answer.verdict, Verdict::First);
+    let module =
+        |average, error| Module { inputs: 2, gates: 1, outputs: 2, live: 1, average, error };
+    assert_eq!(answer.first, module(1 << 30, 0));
+    assert_eq!(answer.second, module(3 << 28, 2));
+    assert_eq!(answer.patterns, Some(PatternCounts { first: 4, second: 0, neither: 0 }));
+    assert_eq!(compare(&often, &never).unwrap().verdict, Verdict::Second);
+    assert_eq!(compare(&often, &often).unwrap().verdict, Verdict::Undecided);
+    let wire = filzaod::text::read("inputs 1\noutput 0\n").unwrap().image;
+    assert_eq!(compare(&wire, &often).unwrap().patterns, None);
+    let refusal = compare(&wire, &often[..30]).unwrap_err();
+    assert_eq!(
+        (refusal.image, refusal.refusal.number, refusal.refusal.place),
+        (Which::Second, 1, 0)
+    );
+    assert_eq!(refusal.to_string(), format!("the second image: {}", refusal.refusal));
+    assert_eq!(compare(&[], &[]).unwrap_err().image, Which::First);
+    assert_eq!(error_of_image(&often[..30]), Err(Refusal { number: 1, place: 0 }));
 }

@@ -23,7 +23,7 @@ use Rattle.calls.specs.Calls.{reliabilityFor, averageOf}
 use Rattle.average.specs.WeightedSum.{weightedTo, BlockAdds}
 
 -- no reliability passes U
-reliability-fits : (ws : List ℕ) (q : ℕ) → Workable ws → q < 2 ^ inputs ws → reliabilityFor ws q ≤ unitsInOne
+pub reliability-fits : (ws : List ℕ) (q : ℕ) → Workable ws → q < 2 ^ inputs ws → reliabilityFor ws q ≤ unitsInOne
 unfolding reliabilityFor
 reliability-fits ws q workable l = workable-work-all (set ws patternIndex q) (workable-store-pattern ws q workable l) .figures .reliability-fits
 

@@ -21,7 +21,7 @@ ghost use Rattle.average.specs.Blocks.{rowCount, LiveWords, ValuesFrom, 
 use refusal::Judgement;
 
 // The number of no row: every source tells it from each row that there is.
-const NO_ROW: usize = area::MOST_PATTERNS / rows::LANES;
+pub const NO_ROW: usize = area::MOST_PATTERNS / rows::LANES;
 
 fn all_zero(weights: &[u32]) -> bool
     ensures { λ r. ⌜ r ≡ allZero (now (weights .entry)) ⌝ }
@@ -69,7 +69,7 @@ fn total_weight(weights: &[u32]) -> u64
 }
 
 // The reliabilities in a row: the product over the outputs in order.
-fn reliability_row(rows: &[u32; rows::ROW_WORDS], area: &[u32]) -> [u32; rows::LANES]
+pub fn reliability_row(rows: &[u32; rows::ROW_WORDS], area: &[u32]) -> [u32; rows::LANES]
     requires { ⌜ NetSound (now area) × OutputsFit (now area) (now rows) ⌝ }
     ensures { λ r. ⌜ EachEntry r (λ l. productFrom (rowWord (now (rows .entry)) l) unitsInOne (layout.outputWords (now (area .entry)))) ⌝ }
     ensures { λ r. ⌜ RowFits r ⌝ }
@@ -134,7 +134,7 @@ fn same_row(unseen: &[usize; area::MOST_SOURCES], source: usize, held: usize, nu
 
 // The rows of all live gates for the row of patterns with this number, in order; no live gate or output reads a dead gate. The rows have been worked out
 // for row `held`, and a gate that does not tell it from this one keeps its own.
-fn work_rows(
+pub fn work_rows(
     rows: &mut [u32; rows::ROW_WORDS],
     words: &[u64; area::MOST_SOURCES],
     area: &[u32],
@@ -194,7 +194,7 @@ fn weighted_row(
 }
 
 // The patterns of a word from `first` on; after the last comes pattern 0 again.
-fn block_patterns(inputs: usize, first: usize) -> [u32; signals::LANES]
+pub fn block_patterns(inputs: usize, first: usize) -> [u32; signals::LANES]
     requires { ⌜ (inputs ≤ layout.mostInputs) × (first ≤ layout.mostPatterns) ⌝ }
     ensures { λ r. ⌜ length r ≡ laneCount ⌝ }
     ensures { λ r. ⌜ ((l : ℕ) → l < laneCount → getD r l 0 ≡ (first + l) % 2 ^ inputs) ⌝ }
@@ -209,7 +209,7 @@ fn block_patterns(inputs: usize, first: usize) -> [u32; signals::LANES]
 }
 
 // The right values of the inputs and of the live gates under 64 patterns.
-fn live_words(
+pub fn live_words(
     area: &[u32],
     next: &[usize; area::MOST_SOURCES],
     patterns: &[u32],

@@ -45,7 +45,7 @@ of-call ws (take-average weights) = of-lent ws (take-average weights)
 of-call ws (count-seen method patterns slots) = of-lent ws (count-seen method patterns slots)
 of-call ws (write-image room) = of-lent ws (write-image room)
 
-positive-code : (v : Judgement) → Only Positive v → code v ≡ 0 → v ≡ Fine
+pub positive-code : (v : Judgement) → Only Positive v → code v ≡ 0 → v ≡ Fine
 positive-code Fine only e = refl
 positive-code (Refused number place) only e = absurd (omega (arith, only number place refl))
 

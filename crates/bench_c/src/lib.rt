@@ -1,4 +1,5 @@
-// The calls of the bench for C. Each answers 0 where the work was done, else number × 2^32 + place, and then leaves what its pointers name as it was.
+// The calls of the bench for C. Each answers 0 where the work was done, else number × 2^32 + place, and then leaves what its pointers name as it was;
+// of two images, the one that is refused stands above the number, from bit 40 on.
 ghost use mathlib.Core.Path.{_≡_};
 ghost use lib.ListN.{length};
 ghost use Prim.Native.Nat.{_/_, _%_};
@@ -6,11 +7,17 @@ ghost use Rattle.refusal.specs.Judgement.{unlessRefused};
 ghost use Rattle.flips.specs.Written.{fieldBytes};
 ghost use Rattle.area.specs.Layout.{pattern as patternWord, reliabilityWord, figure};
 ghost use Rattle.calls.specs.Judgements.{open-image, toggle-input, set-flip, read-netlist, read-gate, take-average, count-seen, write-image, judgement};
+ghost use Rattle.calls.specs.Judgements.{imageJudgement};
 ghost use Rattle.calls.specs.Calls.{openLive, averageOf, left, countsLeft};
 ghost use Rattle.bench.specs.Answers.{counted};
 ghost use Rattle.written.specs.Image.{areaImageLength};
 ghost use Rattle.written.specs.Call.{imageLeft};
 ghost use Rattle.blif.specs.Reading.{textLines, modelLength, blifRefusal, blifLeft};
+ghost use Rattle.bound.specs.Sharp.{errorHalves};
+ghost use Rattle.image.specs.Netlist.{imageNet};
+ghost use Rattle.comparison.specs.Standing.{verdictNumber};
+ghost use Rattle.comparison.specs.Images.{compared};
+ghost use Rattle.bench_c.specs.Comparing.{countsOf, imageCode, comparedCode, resultWords, resultLeft};
 ghost use Rattle.bench_c.specs.Codes.{refusalCode, code, FloatBy};
 use bench::Averaged;
 use bench::Counted;
@@ -21,6 +28,13 @@ use bench::NetlistRead;
 use bench::Opened;
 use bench::Toggled;
 use blif::BlifRead;
+use comparison::Compared;
+use comparison::Counts;
+use comparison::ErrorRead;
+use comparison::Image;
+use comparison::Module;
+use comparison::Patterns;
+use comparison::Verdict;
 use netlist::Method;
 use refusal::Judgement;
 
@@ -214,5 +228,107 @@ pub extern "C" fn bench_read_blif(text: &[u8], image: &mut [u8], bytes: &mut u32
             0
         }
         BlifRead::Refused(number, place) => refused(number, place),
+    }
+}
+
+// The error of an image's figures in half units goes to `halves`, the number of live gates to `live`.
+#[no_mangle]
+pub extern "C" fn bench_error_of_image(image: &[u8], halves: &mut u32, live: &mut u32) -> u64
+    ensures { λ r. ⌜ r ≡ code (imageJudgement (now (image .entry))) ⌝ }
+    ensures { λ _. ⌜ now (halves .exit) ≡ unlessRefused (imageJudgement (now (image .entry))) (errorHalves (imageNet (now (image .entry))))
+        (now (halves .entry)) ⌝ }
+    ensures { λ _. ⌜ now (live .exit) ≡ unlessRefused (imageJudgement (now (image .entry))) (openLive (now (image .entry))) (now (live .entry)) ⌝ }
+{
+    let answer = comparison::error_of_image(image);
+    match answer {
+        ErrorRead::Done {
+            halves: error,
+            live: gates,
+        } => {
+            *halves = error;
+            *live = gates;
+            0
+        }
+        ErrorRead::Refused(number, place) => refused(number, place),
+    }
+}
+
+fn verdict_number(verdict: Verdict) -> u32
+    ensures { λ r. ⌜ r ≡ verdictNumber verdict ⌝ }
+{
+    match verdict {
+        Verdict::Undecided => 0,
+        Verdict::First => 1,
+        Verdict::Second => 2,
+    }
+}
+
+// Where the inputs are unlike no pattern is counted, and all three are 0.
+fn pattern_counts(patterns: Patterns) -> Counts
+    ensures { λ r. ⌜ r ≡ countsOf patterns ⌝ }
+{
+    match patterns {
+        Patterns::Counted(counts) => counts,
+        Patterns::Unlike => Counts {
+            first: 0,
+            second: 0,
+            neither: 0,
+        },
+    }
+}
+
+// Images 1 and 2 from bit 40 on.
+const FIRST_IMAGE: u64 = 1_099_511_627_776;
+
+const SECOND_IMAGE: u64 = 2_199_023_255_552;
+
+// A refusal of one of two images as one number: the image stands above number and place.
+fn refused_image(image: Image, number: u8, place: u32) -> u64
+    ensures { λ r. ⌜ r ≡ imageCode image number place ⌝ }
+{
+    let code = refused(number, place);
+    match image {
+        Image::First => FIRST_IMAGE + code,
+        Image::Second => SECOND_IMAGE + code,
+    }
+}
+
+// The numbers of bench_comparison in include/bench.h, in its order.
+fn result_words(verdict: Verdict, first: Module, second: Module, counts: Counts) -> [u32; 16]
+    ensures { λ r. ⌜ r ≡ resultWords verdict first second counts ⌝ }
+{
+    [
+        verdict_number(verdict),
+        first.inputs,
+        first.gates,
+        first.outputs,
+        first.live,
+        first.average,
+        first.error,
+        second.inputs,
+        second.gates,
+        second.outputs,
+        second.live,
+        second.average,
+        second.error,
+        counts.first,
+        counts.second,
+        counts.neither,
+    ]
+}
+
+// Compares two images. All that is known of them goes to `result`.
+#[no_mangle]
+pub extern "C" fn bench_compare(first: &[u8], second: &[u8], result: &mut [u32; 16]) -> u64
+    ensures { λ r. ⌜ r ≡ comparedCode (compared (now (first .entry)) (now (second .entry))) ⌝ }
+    ensures { λ _. ⌜ now (result .exit) ≡ resultLeft (compared (now (first .entry)) (now (second .entry))) (now (result .entry)) ⌝ }
+{
+    let answer = comparison::compare(first, second);
+    match answer {
+        Compared::Done(verdict, one, other, patterns) => {
+            *result = result_words(verdict, one, other, pattern_counts(patterns));
+            0
+        }
+        Compared::Refused(image, number, place) => refused_image(image, number, place),
     }
 }

@@ -8,12 +8,13 @@ use borrow.Author.Tests.{leb-true, ltb-true, eqb-true, not-true, lt-ltb, le-ltb,
 use lib.Dec.{leb, ltb, eqb}
 use lib.ListN.{length, getD}
 use Rattle.lists.specs.Lists.{allZero}
+use Rattle.refusal.specs.declared.Judgement.{Judgement}
 use Rattle.refusal.specs.declared.Judgement.the-variants.{Fine, Refused}
 use Rattle.refusal.specs.Judgement.{refuseUnless, otherwise, lowest}
 use Rattle.refusal.proofs.Laws.{unless-fine, otherwise-fine, otherwise-second, otherwise-first, lowest-fine, otherwise-assoc}
 use Rattle.refusal.proofs.Laws.{Only, NotRule, only-fine, only-unless, only-otherwise, only-lowest}
 use Rattle.chance.specs.Flip.{flipAccepted}
-use Rattle.area.specs.Layout.{largestWeight, mostListed, inputs, gates, outputs, needed}
+use Rattle.area.specs.Layout.{mostWords, largestWeight, mostListed, inputs, gates, outputs, needed}
 use Rattle.area.specs.Rules.{roomJudgement, areaJudgement, Sound}
 use Rattle.live.specs.Shared.{sharedJudgement}
 use Rattle.live.proofs.Shared.{only-shared}
@@ -23,9 +24,10 @@ use Rattle.image.specs.Image.{imageLength, imageGates, imageOutputs}
 use Rattle.image.specs.Refusals.{imageRefusal}
 use Rattle.image.specs.Netlist.{imageNet}
 use Rattle.image.proofs.Numbers.{only-image}
+use Rattle.image.proofs.Right.{image-right}
 use Rattle.calls.specs.Judgements.{Call, open-image, toggle-input, set-flip, read-netlist, read-gate, take-average, count-seen, write-image}
 use Rattle.calls.specs.Judgements.{named, flipJudgement, weightJudgement, weightsJudgement, WeightsFit, listedJudgement, countsJudgement, sliceJudgement}
-use Rattle.calls.specs.Judgements.{openJudgement, argumentJudgement, lentJudgement}
+use Rattle.calls.specs.Judgements.{openJudgement, imageJudgement, JudgedAsOpened, argumentJudgement, lentJudgement}
 
 -- ---- 10 to 13, 15 to 17, 21
 
@@ -132,6 +134,30 @@ open-fine bs size e =
     let shared = otherwise-fine (sharedJudgement (imageNet bs)) _ (image .1) in
     record { image = image .0; shared = shared .0; room = room-fine (imageGates bs) (imageOutputs bs) size (shared .1) }
 
+-- ---- an image by itself
+
+pub judged-image : (bs : List ℕ) → imageJudgement bs ≡ Fine → imageRefusal bs ≡ Fine
+unfolding imageJudgement
+judged-image bs e = otherwise-fine (imageRefusal bs) (sharedJudgement (imageNet bs)) e .0
+
+pub judged-as-opened : JudgedAsOpened
+unfolding imageJudgement openJudgement
+judged-as-opened bs size room =
+    never-third (imageRefusal bs) (sharedJudgement (imageNet bs)) _ (λ e. fine-room (imageGates bs) (imageOutputs bs) size (room e))
+  where
+    -- a third judgement that is fine wherever the first is
+    never-third : (u v w : Judgement) → (u ≡ Fine → w ≡ Fine) → otherwise u (otherwise v w) ≡ otherwise u v
+    never-third Fine Fine w h = h refl
+    never-third Fine (Refused number place) w h = refl
+    never-third (Refused number place) v w h = refl
+
+-- an area of this length holds every netlist
+pub judged-in-most : (bs : List ℕ) → openJudgement bs mostWords ≡ imageJudgement bs
+judged-in-most bs =
+    judged-as-opened bs mostWords (λ e.
+    let right = image-right bs e .trailer in
+    omega (arith, right .inputs-fit, right .gates-fit, right .outputs-fit))
+
 -- ---- the numbers: none is 0, and 14 is the area's alone
 
 pub only-room : (g k size : ℕ) → Only NotRule (roomJudgement g k size)
@@ -177,3 +203,7 @@ unfolding openJudgement
 only-open bs size =
     only-otherwise NotRule _ _ (only-image bs)
     (only-otherwise NotRule _ _ (only-shared (imageNet bs)) (only-room (imageGates bs) (imageOutputs bs) size))
+
+pub only-judged : (bs : List ℕ) → Only NotRule (imageJudgement bs)
+unfolding imageJudgement
+only-judged bs = only-otherwise NotRule (imageRefusal bs) (sharedJudgement (imageNet bs)) (only-image bs) (only-shared (imageNet bs))

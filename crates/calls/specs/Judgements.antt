@@ -12,7 +12,7 @@ use Rattle.refusal.specs.declared.Judgement.the-variants.{Fine}
 use Rattle.refusal.specs.Judgement.{refuseUnless, otherwise, lowest, wordJudgement}
 use Rattle.chance.specs.Flip.{flipAccepted}
 use Rattle.netlist.specs.declared.Method.{Method}
-use Rattle.area.specs.Layout.{largestWeight, mostListed, inputs, gates, outputs}
+use Rattle.area.specs.Layout.{largestWeight, mostListed, inputs, gates, outputs, needed}
 use Rattle.area.specs.Rules.{roomJudgement, areaJudgement}
 use Rattle.live.specs.Shared.{sharedJudgement}
 use Rattle.image.specs.Image.{imageLength, imageGates, imageOutputs}
@@ -72,6 +72,15 @@ sliceJudgement g k room = refuseUnless (leb (imageLength g k) room) 21 0
 unfoldable pub openJudgement : List ℕ → ℕ → Judgement
 openJudgement bs size =
     otherwise (imageRefusal bs) (otherwise (sharedJudgement (imageNet bs)) (roomJudgement (imageGates bs) (imageOutputs bs) size))
+
+-- an image by itself: what a call on images that is lent no area begins with
+unfoldable pub imageJudgement : List ℕ → Judgement
+imageJudgement bs = otherwise (imageRefusal bs) (sharedJudgement (imageNet bs))
+
+-- opening judges it so in every area that has room for its netlist, if it has one
+abbrev pub JudgedAsOpened : Type 0
+JudgedAsOpened =
+    (bs : List ℕ) (size : ℕ) → (imageRefusal bs ≡ Fine → needed (imageGates bs) (imageOutputs bs) ≤ size) → openJudgement bs size ≡ imageJudgement bs
 
 -- the refusals but 13 and 14 of a call on a netlist with n inputs, g gates and k outputs; an image is judged by itself
 unfoldable pub argumentJudgement : ℕ → ℕ → ℕ → Call → Judgement

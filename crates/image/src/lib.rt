@@ -7,6 +7,7 @@ ghost use Rattle.refusal.specs.declared.Judgement.the-variants.{Fine};
 ghost use Rattle.refusal.specs.Judgement.{lowest};
 ghost use Rattle.area.specs.Layout.{mostInputs, mostGates, mostOutputs, mostWords, headWords, gateIndex, figureIndex, outputsIndex, needed};
 ghost use Rattle.image.specs.Image.{trailerBytes, middleBytes, recordBytes, outputBytes, u16At, u32At, fourNumbers, eightBytes, recordAt};
+ghost use Rattle.image.specs.Image.{imageGates, middle, recordKind};
 ghost use Rattle.image.specs.Refusals.{lengthRight, backRight, trailerRefusal, TrailerRight};
 ghost use Rattle.image.specs.Refusals.{gateRefusal, outputRefusal, middleRefusal, netlistRefusal, imageRefusal};
 ghost use Rattle.image.specs.Loading.{recordWords, outputWord, gateList, outputList, middleWords, imageWords, imageOver};
@@ -289,4 +290,14 @@ pub fn load(image: &[u8], words: &mut [u32]) -> Judgement
         Judgement::Fine => load_netlist(image, words),
         Judgement::Refused(number, place) => Judgement::Refused(number, place),
     }
+}
+
+// The kind of a gate's flip, which no word of an area holds. The caller has judged the image.
+pub fn gate_kind(image: &[u8], gate: usize) -> u8
+    requires { ⌜ TrailerRight (now image) × (gate < imageGates (now image)) ⌝ }
+    ensures { λ r. ⌜ r ≡ recordKind (middle (now (image .entry))) gate ⌝ }
+{
+    let at = image.len() - TRAILER_BYTES;
+    let start = at - area::index(four_bytes(image, at + BACK));
+    image[start + RECORD_BYTES * gate + KIND]
 }

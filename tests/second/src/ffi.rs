@@ -1,7 +1,8 @@
-//! The proved library's ten C functions, each behind a safe function with the enum as its answer.
+//! The proved library's C functions, each behind a safe function with the enum as its answer.
 
 use crate::answer::{Answer, Bench, GateReading, NetlistReading};
 use crate::counts::Method;
+use crate::standing::{Comparison, Outcome};
 
 mod c {
     extern "C" {
@@ -70,6 +71,19 @@ mod c {
             image: *mut u8,
             image_len: usize,
             bytes: *mut u32,
+        ) -> u64;
+        pub fn bench_error_of_image(
+            image: *const u8,
+            image_len: usize,
+            halves: *mut u32,
+            live: *mut u32,
+        ) -> u64;
+        pub fn bench_compare(
+            first: *const u8,
+            first_len: usize,
+            second: *const u8,
+            second_len: usize,
+            result: *mut [u32; 16],
         ) -> u64;
     }
 }
@@ -183,6 +197,30 @@ pub fn read_blif(text: &[u8], slice: &mut [u8]) -> Answer<u32> {
         c::bench_read_blif(text.as_ptr(), text.len(), slice.as_mut_ptr(), slice.len(), &mut bytes)
     };
     answer(returned, bytes == UNTOUCHED, bytes)
+}
+
+/// The error of an image in half units, and its live gates.
+pub fn error_of_image(image: &[u8]) -> Answer<(u32, u32)> {
+    let (mut halves, mut live) = (UNTOUCHED, UNTOUCHED);
+    // SAFETY: the slice is passed with its own length, and both results outlive the call.
+    let returned =
+        unsafe { c::bench_error_of_image(image.as_ptr(), image.len(), &mut halves, &mut live) };
+    answer(returned, (halves, live) == (UNTOUCHED, UNTOUCHED), (halves, live))
+}
+
+pub fn compare(first: &[u8], second: &[u8]) -> Outcome {
+    let mut result = [UNTOUCHED; 16];
+    // SAFETY: both slices are passed with their own lengths, and the result outlives the call.
+    let returned = unsafe {
+        c::bench_compare(first.as_ptr(), first.len(), second.as_ptr(), second.len(), &mut result)
+    };
+    if returned != 0 {
+        assert_eq!(result, [UNTOUCHED; 16], "a refused comparison wrote to its result");
+        let image = (returned >> 40) as u8;
+        assert!(image == 1 || image == 2, "the library returned {returned:#x}");
+        return Outcome::Refused { image, number: (returned >> 32) as u8, place: returned as u32 };
+    }
+    Outcome::Done(Comparison::from_words(result))
 }
 
 /// The library as a bench.

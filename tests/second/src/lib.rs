@@ -29,4 +29,5 @@ pub mod random;
 pub mod sheet;
 #[cfg(feature = "self_test")]
 pub mod stand_in;
+pub mod standing;
 pub mod written;

@@ -1,10 +1,11 @@
-//! The model behind the library's ten names, so that every test can run against itself. With
+//! The model behind the library's names, so that every test can run against itself. With
 //! `FAULT=name` in the environment it errs in one way, to show that the tests notice.
 
 use crate::answer::{Answer, Bench};
 use crate::blif;
 use crate::counts::{self, Method};
 use crate::model::{self, Counts, Model, Rounding, Variant, PATTERN, RELIABILITY};
+use crate::standing::{self, Bent, Outcome};
 use std::sync::OnceLock;
 
 #[derive(Clone, Copy, Debug, PartialEq, Eq)]
@@ -92,9 +93,17 @@ enum Fault {
     ExactRefused,
     /// A slice that is too short is filled all the same.
     WrittenRefused,
+    /// A comparison leaves out the averages' own half units.
+    NoHalves,
+    /// A comparison counts only the greater error.
+    OneError,
+    /// Of two images that are refused the second is named.
+    SecondFirst,
+    /// The errors of the two modules are exchanged.
+    ErrorsExchanged,
 }
 
-const FAULTS: [(&str, Fault); 41] = [
+const FAULTS: [(&str, Fault); 45] = [
     ("round_down", Fault::RoundDown),
     ("half_up", Fault::HalfUp),
     ("dead_readers", Fault::DeadReaders),
@@ -136,6 +145,10 @@ const FAULTS: [(&str, Fault); 41] = [
     ("written_past_end", Fault::WrittenPastEnd),
     ("exact_refused", Fault::ExactRefused),
     ("written_refused", Fault::WrittenRefused),
+    ("no_halves", Fault::NoHalves),
+    ("one_error", Fault::OneError),
+    ("second_first", Fault::SecondFirst),
+    ("errors_exchanged", Fault::ErrorsExchanged),
 ];
 
 fn fault() -> Fault {
@@ -494,6 +507,55 @@ pub unsafe extern "C" fn bench_read_blif(
         *bytes = length;
     }
     encode(&answer)
+}
+
+/// # Safety
+/// As for `bench_open`.
+#[no_mangle]
+pub unsafe extern "C" fn bench_error_of_image(
+    image: *const u8,
+    image_len: usize,
+    halves: *mut u32,
+    live: *mut u32,
+) -> u64 {
+    let image = std::slice::from_raw_parts(image, image_len);
+    let answer = standing::error_of_image(&bench(), image);
+    if let Answer::Done((error, count)) = answer {
+        (*halves, *live) = (error, count);
+    }
+    encode(&answer)
+}
+
+/// # Safety
+/// As for `bench_open`.
+#[no_mangle]
+pub unsafe extern "C" fn bench_compare(
+    first: *const u8,
+    first_len: usize,
+    second: *const u8,
+    second_len: usize,
+    result: *mut [u32; 16],
+) -> u64 {
+    let first = std::slice::from_raw_parts(first, first_len);
+    let second = std::slice::from_raw_parts(second, second_len);
+    let bent = Bent {
+        no_halves: fault() == Fault::NoHalves,
+        one_error: fault() == Fault::OneError,
+        second_first: fault() == Fault::SecondFirst,
+    };
+    match standing::compare(&bench(), first, second, bent) {
+        Outcome::Done(mut comparison) => {
+            if fault() == Fault::ErrorsExchanged {
+                let [one, other] = &mut comparison.modules;
+                std::mem::swap(&mut one.error, &mut other.error);
+            }
+            *result = comparison.words();
+            0
+        }
+        Outcome::Refused { image, number, place } => {
+            (u64::from(image) << 40) + (u64::from(number) << 32) + u64::from(place)
+        }
+    }
 }
 
 /// The text as one of the faults takes it.

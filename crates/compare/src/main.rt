@@ -1,0 +1,140 @@
+// The program compare: takes the paths of two images, and prints a line for each module, which of them stands higher, and the patterns' counts.
+ghost use Prim.Native.Nat.{ℕ, _≤_, _<_};
+ghost use mathlib.Core.Path.{_≡_};
+ghost use lib.ListN.{length, getD};
+ghost use Rattle.compare.specs.Decimals.{mostHalves, tenDecimals, decimal};
+use comparison::Compared;
+use comparison::Counts;
+use comparison::Image;
+use comparison::Module;
+use comparison::Patterns;
+use comparison::Verdict;
+use libc::STDOUT_FILENO;
+
+const DECIMALS: usize = 10;
+
+// Parts of 10^-10 in 1.
+const PARTS_IN_ONE: u64 = 10_000_000_000;
+
+fn print_text(text: &[u8]) {
+    io::write_all(STDOUT_FILENO, text);
+}
+
+fn print_word(text: &[u8], number: u64) {
+    print_text(text);
+    io::print_decimal(STDOUT_FILENO, number);
+}
+
+// Half units in parts of 10^-10. Both 10^10 and 2^31 are divided by 2^10 first, so that the product fits.
+fn ten_decimals(halves: u64) -> u64
+    requires { ⌜ halves ≤ mostHalves ⌝ }
+    ensures { λ r. ⌜ r ≡ tenDecimals halves ⌝ }
+{
+    rounding::rounded(halves * 9_765_625, 2_097_152)
+}
+
+// The last ten digits of a number.
+fn spell(number: u64) -> [u8; DECIMALS]
+    ensures { λ r. ⌜ (length r ≡ 10) × ((i : ℕ) → i < 10 → getD r i 0 ≡ decimal number i) ⌝ }
+{
+    let mut text = [b'0'; DECIMALS];
+    let mut rest = number;
+    let mut i = DECIMALS;
+    while 0 < i {
+        i -= 1;
+        text[i] = b'0' + (rest % 10) as u8;
+        rest /= 10;
+    }
+    text
+}
+
+// Half units as a decimal fraction with ten decimals.
+fn print_fraction(halves: u64)
+    requires { ⌜ halves ≤ mostHalves ⌝ }
+{
+    let parts = ten_decimals(halves);
+    print_word(b"", parts / PARTS_IN_ONE);
+    let text = spell(parts);
+    print_text(b".");
+    print_text(&text[..]);
+}
+
+// The average is one half unit further from the exact one than the figures are.
+fn print_module(module: Module) {
+    print_word(b"inputs ", module.inputs as u64);
+    print_word(b" gates ", module.gates as u64);
+    print_word(b" outputs ", module.outputs as u64);
+    print_word(b" live ", module.live as u64);
+    print_word(b" average ", module.average as u64);
+    print_word(b" error ", module.error as u64);
+    print_text(b" ");
+    print_fraction(2 * module.average as u64);
+    print_text(b" \xc2\xb1 ");
+    print_fraction(module.error as u64 + 1);
+    print_text(b"\n");
+}
+
+fn print_verdict(verdict: Verdict) {
+    match verdict {
+        Verdict::First => print_text(b"first\n"),
+        Verdict::Second => print_text(b"second\n"),
+        Verdict::Undecided => print_text(b"undecided\n"),
+    }
+}
+
+fn print_counts(counts: Counts) {
+    print_word(b"patterns first ", counts.first as u64);
+    print_word(b" second ", counts.second as u64);
+    print_word(b" neither ", counts.neither as u64);
+    print_text(b"\n");
+}
+
+fn print_patterns(patterns: Patterns) {
+    match patterns {
+        Patterns::Counted(counts) => print_counts(counts),
+        Patterns::Unlike => {}
+    }
+}
+
+fn print_refused(image: Image, number: u8, place: u32) {
+    match image {
+        Image::First => print_text(b"refused first"),
+        Image::Second => print_text(b"refused second"),
+    }
+    print_word(b" ", number as u64);
+    print_word(b" ", place as u64);
+    print_text(b"\n");
+}
+
+fn print_compared(compared: Compared) {
+    match compared {
+        Compared::Done(verdict, first, second, patterns) => {
+            print_module(first);
+            print_module(second);
+            print_verdict(verdict);
+            print_patterns(patterns);
+        }
+        Compared::Refused(image, number, place) => print_refused(image, number, place),
+    }
+}
+
+// Opens the file that an argument names, or answers -1.
+fn open_argument(i: usize) -> i32 {
+    let mut path = io::buffer();
+    let length = os::arg(i, &mut path);
+    os::open_read(&path[..length])
+}
+
+// The largest image has 32,768 bytes; one byte more is read, so that a longer one is refused. A file that cannot be opened leaves the output empty.
+fn main() {
+    let one = open_argument(1);
+    let other = open_argument(2);
+    if one < 0 || other < 0 {
+        return;
+    }
+    let mut first = [0u8; 32769];
+    let mut second = [0u8; 32769];
+    let first_length = io::read_full(one, &mut first);
+    let second_length = io::read_full(other, &mut second);
+    print_compared(comparison::compare(&first[..first_length], &second[..second_length]));
+}

@@ -1,0 +1,1 @@
+// What a comparison means: no code; see specs/ and proofs/.
