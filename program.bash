@@ -43,7 +43,7 @@ build() {
     command -v rt >/dev/null || fail "not built: there is no rt, the Rattle kit is not installed"
     mkdir -p "$root/target" && rm -f "$built" && touch "$built.begun" || fail "not built: $root/target cannot be written"
     count=$(count_crates)
-    echo "$script: proving and building $count crates, once; about 3 minutes on two cores" >&2
+    echo "$script: proving and building $count crates, once; a few minutes on two cores" >&2
     if ! (cd "$root" && rt check "$crate") </dev/null 2>&1 | tee "$log" | show_progress "$count"; then
         tail -n 20 "$log" >&2
         fail "not built: the end of target/$script.log stands above"
