@@ -1,4 +1,4 @@
--- What each answer of the library tells of its judgement and its result. Assumes nothing.
+-- What each answer of the library tells of its judgement and its result; opening's is in bench. Assumes nothing.
 use Prim.Native.Nat.{ℕ}
 use mathlib.Core.Path.{_≡_, refl}
 use native.Mathlib.Omega.{arith}
@@ -8,8 +8,7 @@ use lib.Ieee.Exact.{HasValue}
 use Rattle.rounding.specs.Rounding.{unitsInOne}
 use Rattle.refusal.specs.declared.Judgement.{Judgement}
 use Rattle.refusal.specs.declared.Judgement.the-variants.{Fine, Refused}
-use Rattle.bench.specs.Answers.{opened, toggled, flipSet, gateRead, averaged, counted, imageWritten, NetlistAnswer}
-use Rattle.bench.specs.declared.Opened.the-variants.{Done as OpenDone, Refused as OpenRefused}
+use Rattle.bench.specs.Answers.{toggled, flipSet, gateRead, averaged, counted, imageWritten, NetlistAnswer}
 use Rattle.bench.specs.declared.Toggled.the-variants.{Done as ToggleDone, Refused as ToggleRefused}
 use Rattle.bench.specs.declared.FlipSet.the-variants.{Done as SetDone, Refused as SetRefused}
 use Rattle.bench.specs.declared.NetlistRead.{NetlistRead}
@@ -33,11 +32,6 @@ set-told (Refused b q) = (λ e. cc, λ a p e. cc)
 pub count-told : (j : Judgement) → (counted j ≡ CountDone → j ≡ Fine) × ((a p : ℕ) → counted j ≡ CountRefused a p → j ≡ Refused a p)
 count-told Fine = (λ e. refl, λ a p e. cc)
 count-told (Refused b q) = (λ e. cc, λ a p e. cc)
-
-pub open-told : (j : Judgement) (v : ℕ)
-    → ((n : ℕ) → opened j v ≡ OpenDone n → (j ≡ Fine) × (n ≡ v)) × ((a p : ℕ) → opened j v ≡ OpenRefused a p → j ≡ Refused a p)
-open-told Fine v = (λ n e. (refl, cc), λ a p e. cc)
-open-told (Refused b q) v = (λ n e. (cc, cc), λ a p e. cc)
 
 pub average-told : (j : Judgement) (v : ℕ)
     → ((n : ℕ) → averaged j v ≡ AverageDone n → (j ≡ Fine) × (n ≡ v)) × ((a p : ℕ) → averaged j v ≡ AverageRefused a p → j ≡ Refused a p)

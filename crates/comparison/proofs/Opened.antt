@@ -33,15 +33,10 @@ use Rattle.errors.proofs.Charges.{same-halves}
 use Rattle.bench.specs.declared.Opened.{Opened}
 use Rattle.bench.specs.declared.Opened.the-variants.{Done, Refused as OpenRefused}
 use Rattle.bench.specs.Answers.{opened}
+use Rattle.bench.proofs.Answered.{open-told}
 use Rattle.comparison.specs.declared.Module.{Module}
 use Rattle.comparison.specs.declared.ModuleRead.the-variants.{Done as ModuleDone, Refused as ModuleRefused}
 use Rattle.comparison.specs.Images.{newArea, openedWords, moduleRead}
-
--- what opening's answer says of its judgement
-pub open-told : (j : Judgement) (live : ℕ)
-    → ((n : ℕ) → opened j live ≡ Done n → (j ≡ Fine) × (n ≡ live)) × ((a p : ℕ) → opened j live ≡ OpenRefused a p → j ≡ Refused a p)
-open-told Fine live = (λ n e. (refl, cc), λ a p e. cc)
-open-told (Refused b q) live = (λ n e. (cc, cc), λ a p e. cc)
 
 pub module-told : (j : Judgement) (m : Module)
     → ((k : Module) → moduleRead j m ≡ ModuleDone k → (j ≡ Fine) × (k ≡ m)) × ((a p : ℕ) → moduleRead j m ≡ ModuleRefused a p → j ≡ Refused a p)

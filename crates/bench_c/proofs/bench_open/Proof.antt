@@ -2,7 +2,7 @@
 use mathlib.Core.Path.{refl, sym, _∙_}
 use Rattle.calls.specs.Calls.{openLive}
 use Rattle.calls.specs.Judgements.{open-image, judgement}
-use Rattle.bench_c.proofs.Answered.{open-told}
+use Rattle.bench.proofs.Answered.{open-told}
 use borrow.Author.Needs.{needs}
 use Rattle.bench_c.proofs.bench_open.Statement.{statement}
 use Rattle.bench_c.proofs.bench_open.Tie as tie
