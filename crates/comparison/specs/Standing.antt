@@ -1,4 +1,4 @@
--- Which of two figures is higher beyond doubt, and which of two modules stands higher. Figures are in units, errors in half units.
+-- Which of two figures is surely higher, and which of two modules stands higher. Figures are in units, errors in half units.
 use Prim.Native.Nat.{ℕ, _+_, _*_, _^_}
 use mathlib.Core.Bool.{Bool, cond}
 use lib.Dec.{ltb, eqb}

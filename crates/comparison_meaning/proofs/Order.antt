@@ -7,7 +7,7 @@ use native.Mathlib.Decide.{decLt}
 use native.Mathlib.Omega.{arith}
 use Rattle.rounding.specs.Rounding.{Near}
 
--- a figure a of the fraction x / (u × p) is within s half units of it; so is b of y / (u × q) within t half units
+-- a unit is 1 / u; the figure a is within s half units of x / p, and b within t half units of y / q
 pub separate : (u a b s t p q x y : ℕ) → 0 < p → 0 < q → 2 * b + (s + t) < 2 * a
     → Near (s * p) (2 * (a * p)) (2 * (u * x)) → Near (t * q) (2 * (b * q)) (2 * (u * y))
     → y * p < x * q
