@@ -3,8 +3,9 @@
 //! from the exact ones and which of two modules stands higher.
 //!
 //! Every call answers a [`Result`]: its result, or a [`Refusal`] with the number and place that
-//! docs/SCOPE.md gives; of two images, an [`ImageRefusal`], which says which one it is. A refused call has changed nothing. Figures are whole numbers of units, of
-//! which [`ONE`] make 1; what is rounded goes to the nearest unit, and a half to the even unit.
+//! docs/SCOPE.md gives; of two images, an [`ImageRefusal`], which says which one it is. A refused
+//! call has changed nothing. Figures are whole numbers of units, of which [`ONE`] make 1; what is
+//! rounded goes to the nearest unit, and a half to the even unit.
 //!
 //! ```
 //! use filzaod::{average, open, read_gate, read_netlist, set_flip, text, toggle_input, Flip, MAX_WORDS};
@@ -97,7 +98,8 @@
 //! # Ok::<(), Box<dyn std::error::Error>>(())
 //! ```
 //!
-//! Which of two modules is more reliable? The answer is one where the errors of the figures leave no doubt:
+//! Which of two modules is more reliable? It is said only where the errors of the figures leave no
+//! doubt:
 //!
 //! ```
 //! use filzaod::{compare, error_of_image, text, Verdict};

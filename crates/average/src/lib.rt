@@ -23,6 +23,14 @@ use refusal::Judgement;
 // The number of no row: every source tells it from each row that there is.
 pub const NO_ROW: usize = area::MOST_PATTERNS / rows::LANES;
 
+// How many patterns there are.
+pub fn pattern_count(inputs: usize) -> usize
+    requires { ⌜ inputs ≤ layout.mostInputs ⌝ }
+    ensures { λ r. ⌜ (r ≡ 2 ^ inputs) × (0 < r) × (r ≤ layout.mostPatterns) ⌝ }
+{
+    1 << inputs
+}
+
 fn all_zero(weights: &[u32]) -> bool
     ensures { λ r. ⌜ r ≡ allZero (now (weights .entry)) ⌝ }
 {

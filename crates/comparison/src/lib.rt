@@ -176,7 +176,7 @@ fn opened_module(figures: &mut [u32], area: &[u32], image: &[u8], live: u32) -> 
 {
     patterns::each_reliability(figures, area);
     let inputs = area::inputs(area);
-    let average = equal_mean(figures, patterns::pattern_count(inputs));
+    let average = equal_mean(figures, average::pattern_count(inputs));
     let error = errors::error_halves(area, image);
     Module {
         inputs: inputs as u32,
@@ -216,7 +216,7 @@ fn compare_patterns(
     if first.inputs != second.inputs {
         return Patterns::Unlike;
     }
-    let count = patterns::pattern_count(area::index(first.inputs));
+    let count = average::pattern_count(area::index(first.inputs));
     Patterns::Counted(count_patterns(
         first_figures,
         second_figures,

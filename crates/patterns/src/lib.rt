@@ -19,14 +19,6 @@ fn put_row(figures: &mut [u32], start: usize, row: [u32; rows::LANES])
     area::store(figures, start, &row[..]);
 }
 
-// How many patterns there are.
-pub fn pattern_count(inputs: usize) -> usize
-    requires { ⌜ inputs ≤ layout.mostInputs ⌝ }
-    ensures { λ r. ⌜ (r ≡ 2 ^ inputs) × (0 < r) × (r ≤ layout.mostPatterns) ⌝ }
-{
-    1 << inputs
-}
-
 // The reliabilities of the row with this number, unless its patterns are past the last; `held` then becomes its number.
 fn store_row(
     figures: &mut [u32],
@@ -47,7 +39,7 @@ fn store_row(
         × RowsHeld (now (area .entry)) (now (unseen .entry)) (now (rows .exit)) (now (held .exit)) ⌝ }
 {
     let start = rows::LANES * number;
-    if pattern_count(area::inputs(area)) <= start {
+    if average::pattern_count(area::inputs(area)) <= start {
         return;
     }
     average::work_rows(rows, words, area, next, unseen, *held, number);
@@ -86,7 +78,7 @@ pub fn each_reliability(figures: &mut [u32], area: &[u32])
     requires { ⌜ Workable (now area) × (layout.mostPatterns ≤ length (now figures)) ⌝ }
     ensures { λ _. ⌜ EachReliability (now (area .entry)) (now (figures .exit)) ⌝ }
 {
-    let count = pattern_count(area::inputs(area));
+    let count = average::pattern_count(area::inputs(area));
     let next = plan::next_live(area);
     let unseen = plan::unseen_bits(area);
     let mut rows = [0u32; rows::ROW_WORDS];

@@ -35,13 +35,6 @@ fn at_most(inputs: usize) -> usize
     }
 }
 
-fn pattern_count(inputs: usize) -> usize
-    requires { ⌜ inputs ≤ mostInputs ⌝ }
-    ensures { λ r. ⌜ r ≤ mostPatterns ⌝ }
-{
-    1 << inputs
-}
-
 // The values of the most inputs as digits, input 0 first.
 fn spell_pattern(pattern: u32) -> [u8; area::MOST_INPUTS]
     ensures { λ r. ⌜ length r ≡ mostInputs ⌝ }
@@ -105,7 +98,7 @@ fn next_pattern(area: &mut [u32], q: usize, inputs: usize)
 fn print_patterns(area: &mut [u32], inputs: usize)
     requires { ⌜ inputs ≤ mostInputs ⌝ }
 {
-    let count = pattern_count(inputs);
+    let count = average::pattern_count(inputs);
     let mut q = 0;
     while q < count {
         print_reliability(area, inputs);
@@ -124,7 +117,7 @@ fn print_average(area: &mut [u32], inputs: usize)
     requires { ⌜ inputs ≤ mostInputs ⌝ }
 {
     let weights = equal_weights();
-    let count = pattern_count(inputs);
+    let count = average::pattern_count(inputs);
     match bench::average(area, &weights[..count]) {
         Averaged::Done(units) => {
             print_word(b"average ", units as u64);

@@ -8,7 +8,7 @@ use Rattle.sheet.proofs.print_average.Tie as tie
 
 slice-aggregate-average : tie.Need-slice-aggregate-average
 slice-aggregate-average c =
-    sym (length-take-le _ _ (omega (arith, c .before .before .before .equal-weights .ensures, c .before .before .pattern-count .ensures)))
+    sym (length-take-le _ _ (omega (arith, c .before .before .before .equal-weights .ensures, c .before .before .pattern-count .ensures .2)))
 
 pub print-average-spec : {M : Type 1} → statement M
 print-average-spec =

@@ -1,11 +1,11 @@
--- `patterns::pattern_count` meets its contract. Assumes nothing.
+-- `average::pattern_count` meets its contract. Assumes nothing.
 use Prim.Native.Nat.{_^_, _≤_, _<_}
 use native.Mathlib.Omega.{arith}
 use lib.Pow.{pow-mono, pow-pos}
 use Rattle.average.proofs.Patterns.{shifted}
 use borrow.Author.Needs.{needs}
-use Rattle.patterns.proofs.pattern_count.Statement.{statement}
-use Rattle.patterns.proofs.pattern_count.Tie as tie
+use Rattle.average.proofs.pattern_count.Statement.{statement}
+use Rattle.average.proofs.pattern_count.Tie as tie
 
 returns : tie.Need-returns
 returns c =
