@@ -19,11 +19,14 @@
  *         static uint32_t area[BENCH_WORDS_MAX];
  *         uint32_t live, pattern, units;
  *         double reliability;
+ *         uint64_t answer;
  *         size_t length = fread(image, 1, sizeof image, stdin);
- *         uint64_t answer = bench_open(area, BENCH_WORDS_MAX, image, length, &live);
+ *         if (ferror(stdin)) return perror("standard input"), 2;
+ *         answer = bench_open(area, BENCH_WORDS_MAX, image, length, &live);
  *         if (answer == 0) answer = bench_read_netlist(area, BENCH_WORDS_MAX, &pattern, &units, &reliability);
  *         if (answer == 0) printf("live %u, pattern %u: %u units, %.9f\n", live, pattern, units, reliability);
  *         else printf("refused %u %u\n", BENCH_NUMBER(answer), BENCH_PLACE(answer));
+ *         if (fflush(stdout) || ferror(stdout)) return perror("standard output"), 2;
  *         return answer != 0;
  *     }
  *
@@ -219,13 +222,14 @@ uint64_t bench_toggle_input(uint32_t *area, size_t area_len, uint32_t input);
  *     BENCH_FLIP_NEVER    field is 0
  *     BENCH_FLIP_CHANCE   field is the bits of a double: the chance
  *     BENCH_FLIP_STRIKE   the low half is the bits of a float, the strike chance, the high half those of
- *                         another, the latching window; the chance is their exact product
+ *                         another, the latching window; the two multiplied exactly are the chance
  *
- * Each of these floats is finite and from 0 to 1; minus zero is taken for zero. The chance is rounded
- * to units once, to the nearest, a half to the even one.
+ * A float that is not finite, is below 0 or is above 1 is refused; minus zero is taken for zero. The
+ * chance is rounded to units once, to the nearest, a half to the even one.
  *
- * Done: the gate has the new flip; it and the gates that depend on it are worked out again, and so is
- * the reliability. The words of every other gate are as before.
+ * Done: the gate has the new flip; it and the gates that depend on it are worked out again, and so are
+ * the reliability and, where the gate is live, the raw flip sum. The words of every other gate are as
+ * before.
  *
  * Refused, in this order: 13 and 14 of the area; 10 with place `gate`; 11 with place `gate`.
  */

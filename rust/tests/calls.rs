@@ -197,7 +197,16 @@ fn every_refusal_can_be_read() {
         assert!(said.len() > 20 && !said.contains("unknown"), "{said}");
         let named = matches!(number, 5..=11 | 16 | 18 | 19);
         assert_eq!(said.matches("77").count(), if named { 2 } else { 1 }, "{said}");
+        assert_eq!(Refusal { number, place: 77 }.place_is().is_some(), named, "{said}");
     }
+    let nan = Refusal { number: 7, place: 1 };
+    assert_eq!(nan.place_is(), Some("gate"));
+    assert_eq!(
+        nan.sentence(),
+        "gate 1: no such flip kind, or a field that is no chance from 0 to 1"
+    );
+    let long = Refusal { number: 18, place: 0 };
+    assert_eq!((long.place_is(), long.sentence().contains("line")), (None, false));
     let later = Refusal { number: 22, place: 0 };
     assert_eq!(later.to_string(), "refused 22 0: unknown to this package");
 }

@@ -89,7 +89,7 @@ sumHighWord ws = getD ws sumHighIndex 0
 abbrev pub reservedWord : List ℕ → ℕ
 reservedWord ws = getD ws 7 0
 
--- ---- gate j's eight words: pin count, table, four pins, flip units, 2 × failure + right value
+-- ---- the words of gate j, eight of them: count of pins, truth table, the pins, flip in units, and failure and right value in one
 
 abbrev pub gateWords : ℕ
 gateWords = 8

@@ -1,8 +1,4 @@
 // The program compare: takes the paths of two images, and prints a line for each module, which of them stands higher, and the patterns' counts.
-ghost use Prim.Native.Nat.{ℕ, _≤_, _<_};
-ghost use mathlib.Core.Path.{_≡_};
-ghost use lib.ListN.{length, getD};
-ghost use Rattle.compare.specs.Decimals.{mostHalves, tenDecimals, decimal};
 use comparison::Compared;
 use comparison::Counts;
 use comparison::Image;
@@ -10,11 +6,6 @@ use comparison::Module;
 use comparison::Patterns;
 use comparison::Verdict;
 use libc::STDOUT_FILENO;
-
-const DECIMALS: usize = 10;
-
-// Parts of 10^-10 in 1.
-const PARTS_IN_ONE: u64 = 10_000_000_000;
 
 fn print_text(text: &[u8]) {
     io::write_all(STDOUT_FILENO, text);
@@ -25,41 +16,15 @@ fn print_word(text: &[u8], number: u64) {
     io::print_decimal(STDOUT_FILENO, number);
 }
 
-// Half units in parts of 10^-10. Both 10^10 and 2^31 are divided by 2^10 first, so that the product fits.
-fn ten_decimals(halves: u64) -> u64
-    requires { ⌜ halves ≤ mostHalves ⌝ }
-    ensures { λ r. ⌜ r ≡ tenDecimals halves ⌝ }
-{
-    rounding::rounded(halves * 9_765_625, 2_097_152)
-}
-
-// The last ten digits of a number.
-fn spell(number: u64) -> [u8; DECIMALS]
-    ensures { λ r. ⌜ (length r ≡ 10) × ((i : ℕ) → i < 10 → getD r i 0 ≡ decimal number i) ⌝ }
-{
-    let mut text = [b'0'; DECIMALS];
-    let mut rest = number;
-    let mut i = DECIMALS;
-    while 0 < i {
-        i -= 1;
-        text[i] = b'0' + (rest % 10) as u8;
-        rest /= 10;
-    }
-    text
-}
-
-// Half units as a decimal fraction with ten decimals.
-fn print_fraction(halves: u64)
-    requires { ⌜ halves ≤ mostHalves ⌝ }
-{
-    let parts = ten_decimals(halves);
-    print_word(b"", parts / PARTS_IN_ONE);
-    let text = spell(parts);
+// Parts of 10^-10 as a decimal fraction with ten decimals.
+fn print_parts(parts: u64) {
+    print_word(b"", parts / decimals::PARTS_IN_ONE);
+    let text = decimals::spell(parts);
     print_text(b".");
     print_text(&text[..]);
 }
 
-// The average is one half unit further from the exact one than the figures are.
+// After the units the average as a decimal fraction, and an error that holds for that fraction as it is printed.
 fn print_module(module: Module) {
     print_word(b"inputs ", module.inputs as u64);
     print_word(b" gates ", module.gates as u64);
@@ -68,9 +33,9 @@ fn print_module(module: Module) {
     print_word(b" average ", module.average as u64);
     print_word(b" error ", module.error as u64);
     print_text(b" ");
-    print_fraction(2 * module.average as u64);
+    print_parts(decimals::shown_parts(module.average));
     print_text(b" \xc2\xb1 ");
-    print_fraction(module.error as u64 + 1);
+    print_parts(decimals::shown_error(module.average, module.error));
     print_text(b"\n");
 }
 

@@ -1,5 +1,5 @@
--- The errors of an image that is opened: each figure, and the average with weight 1 for every pattern. Assumes nothing.
-use Prim.Native.Nat.{ℕ, zero, suc, _^_, _≤_, _<_}
+-- The errors of an image that is opened: each figure, and the average with weight 1 for every pattern, in units and as it is printed. Assumes nothing.
+use Prim.Native.Nat.{ℕ, zero, suc, _+_, _*_, _^_, _≤_, _<_}
 use mathlib.Core.Bool.{false}
 use mathlib.Core.List.{List}
 use mathlib.Core.Path.{_≡_, refl, sym, ap, subst, _∙_}
@@ -9,9 +9,13 @@ use lib.ListN.{length, getD, replicate, length-replicate, getD-replicate}
 use lib.Pow.{pow-pos}
 use Rattle.lists.specs.Lists.{allZero}
 use Rattle.refusal.specs.declared.Judgement.the-variants.{Fine}
-use Rattle.rounding.specs.Rounding.{unitsInOne}
+use Rattle.rounding.specs.Rounding.{unitsInOne, Near}
 use Rattle.chance.specs.Number.{chanceScale}
+use Rattle.decimals.specs.Decimals.{partsInOne}
+use Rattle.decimals.specs.Statements.{WithinHalves}
+use Rattle.decimals.proofs.Shown.{shown-holds}
 use Rattle.netlist.specs.Netlist.{Netlist}
+use Rattle.bound.specs.Sharp.{errorHalves}
 use Rattle.bound.proofs.Average.{sharp-bound}
 use Rattle.area.specs.Layout.{inputs}
 use Rattle.image.specs.Image.{imageInputs}
@@ -24,7 +28,7 @@ use Rattle.book.proofs.Agree.{same-input-count, well-formed, kinds-honest}
 use Rattle.book.proofs.Average.{reliability-for, average-sharp, total-positive}
 use Rattle.comparison.specs.Images.{newArea, openedWords, figuresOf, ones, equalAverage}
 use Rattle.comparison.proofs.Opened.{opened-inputs, agree}
-use Rattle.comparison_meaning.specs.Statements.{exactParts, exactWeight, ErrorHolds, ErrorsHold}
+use Rattle.comparison_meaning.specs.Statements.{exactTotal, exactParts, exactWeight, ErrorHolds, ErrorsHold, PrintedHolds}
 
 not-all-zero : (k : ℕ) → 0 < k → allZero (replicate k 1) ≡ false
 not-all-zero zero l = absurd (omega arith)
@@ -58,6 +62,23 @@ errors-hold bs fine =
           q);
       average = average-sharp size ws book held (ones bs) (ones-fit bs (inputs ws) (opened-inputs bs));
     }
+
+-- a bound with the weights and the parts as one factor
+near-parts : (s a w d x : ℕ) → Near (s * w * d) (2 * (a * w * d)) x → Near (s * (w * d)) (2 * (a * (w * d))) x
+near-parts s a w d x near = record { up = omega (arith, near .up); down = omega (arith, near .down) }
+
+-- the average's, with both as one divisor
+pub average-near : (bs : List ℕ) → imageJudgement bs ≡ Fine
+    → WithinHalves unitsInOne (equalAverage bs) (errorHalves (imageNet bs) + 1) (exactTotal bs) (exactWeight bs * exactParts bs)
+average-near bs fine =
+    near-parts (errorHalves (imageNet bs) + 1) (equalAverage bs) (exactWeight bs) (exactParts bs) (2 * (unitsInOne * exactTotal bs))
+    (errors-hold bs fine .average)
+
+-- and so it is for what is printed of it
+pub printed-holds : PrintedHolds
+printed-holds bs fine =
+    shown-holds unitsInOne partsInOne (equalAverage bs) (errorHalves (imageNet bs) + 1) (exactTotal bs) (exactWeight bs * exactParts bs) (omega arith)
+    (average-near bs fine)
 
 -- the divisors are above 0
 pub some-parts : (bs : List ℕ) → 0 < exactParts bs

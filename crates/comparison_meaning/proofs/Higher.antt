@@ -27,8 +27,8 @@ use Rattle.comparison.specs.Standing.{sameVerdict, bothErrors, averagesVerdict,
 use Rattle.comparison.specs.Images.{figuresOf, equalAverage, moduleOf}
 use Rattle.comparison_meaning.specs.Statements.{exactTotal, exactParts, exactWeight, ExactlyHigher, higherFor, higherCount}
 use Rattle.comparison_meaning.specs.Statements.{HigherMeansHigher, verdictFor, CountsMean, PatternsMeanHigher, AveragesDecide}
-use Rattle.comparison_meaning.proofs.Order.{separate, near-parts}
-use Rattle.comparison_meaning.proofs.Errors.{errors-hold, some-parts, some-weight}
+use Rattle.comparison_meaning.proofs.Order.{separate}
+use Rattle.comparison_meaning.proofs.Errors.{errors-hold, average-near, some-parts, some-weight}
 use Rattle.comparison_meaning.proofs.Verdicts.{decided-beyond}
 use Rattle.comparison_meaning.proofs.Answers.{Told, told}
 
@@ -44,8 +44,8 @@ average-higher bs cs fine also apart =
     (mul-pos (some-weight bs) (some-parts bs))
     (mul-pos (some-weight cs) (some-parts cs))
     (omega arith)
-    (near-parts (e + 1) (equalAverage bs) (exactWeight bs) (exactParts bs) (2 * (unitsInOne * exactTotal bs)) (errors-hold bs fine .average))
-    (near-parts (f + 1) (equalAverage cs) (exactWeight cs) (exactParts cs) (2 * (unitsInOne * exactTotal cs)) (errors-hold cs also .average))
+    (average-near bs fine)
+    (average-near cs also)
 
 pub higher-means-higher : HigherMeansHigher
 higher-means-higher bs cs m k p =

@@ -20,7 +20,3 @@ separate u a b s t p q x y some-p some-q apart first second =
     (λ no.
     let back = mul-le-mul-left {m = x * q} {n = y * p} u (omega arith) in
     absurd (omega (arith, whole, more, up, down, back)))
-
--- the same bound with the weights and the parts as one factor
-pub near-parts : (s a w d x : ℕ) → Near (s * w * d) (2 * (a * w * d)) x → Near (s * (w * d)) (2 * (a * (w * d))) x
-near-parts s a w d x near = record { up = omega (arith, near .up); down = omega (arith, near .down) }

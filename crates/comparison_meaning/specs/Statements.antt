@@ -7,7 +7,9 @@ use mathlib.Core.Path.{_≡_}
 use lib.Dec.{ltb}
 use Rattle.lists.specs.Lists.{sumBelow}
 use Rattle.refusal.specs.declared.Judgement.the-variants.{Fine}
-use Rattle.rounding.specs.Rounding.{Near}
+use Rattle.rounding.specs.Rounding.{unitsInOne, Near}
+use Rattle.decimals.specs.Decimals.{partsInOne, shownParts, shownError}
+use Rattle.decimals.specs.Statements.{WithinParts}
 use Rattle.chance.specs.Number.{chanceScale}
 use Rattle.figure.specs.Figure.{bitOf}
 use Rattle.netlist.specs.Exact.{exactSum}
@@ -64,6 +66,18 @@ pub record ErrorHolds (bs : List ℕ) : Type 0 where
 
 abbrev pub ErrorsHold : Type 0
 ErrorsHold = (bs : List ℕ) → imageJudgement bs ≡ Fine → ErrorHolds bs
+
+-- ---- what the program prints
+
+-- the exact average lies within the error printed of the decimal fraction printed
+abbrev pub PrintedHolds : Type 0
+PrintedHolds =
+    (bs : List ℕ) → imageJudgement bs ≡ Fine
+    → WithinParts partsInOne
+    (shownParts unitsInOne partsInOne (moduleOf bs .average))
+    (shownError unitsInOne partsInOne (moduleOf bs .average) (moduleOf bs .error + 1))
+    (exactTotal bs)
+    (exactWeight bs * exactParts bs)
 
 -- ---- the answer
 

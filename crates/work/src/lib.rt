@@ -1,5 +1,6 @@
 // Working out on a work area: reading a source, working out gates, dependents and the reliability. Every function here asks for an area whose netlist
-// and figures keep rule 14 (`Workable`); the calls judge the area first. The reserved words are not read.
+// and figures keep rule 14 (`Workable`); the calls judge the area first. Words 5 to 7, the raw flip sum and the
+// reserved word, are neither read nor written here.
 ghost use mathlib.Core.Path.{_≡_};
 ghost use mathlib.Core.List.{map};
 ghost use Prim.Native.Nat.{ℕ, _+_, _-_, _/_, _<_, _≤_};

@@ -139,8 +139,8 @@ pub fn whole_chance(chance: Chance) -> Big {
     Big::from_u64(chance.numerator).shifted(CHANCE_BITS - chance.shift)
 }
 
-/// chance × U to the nearest whole number, a half to the even one, straight from the definition: the
-/// whole half units, and whether anything is left over, say how far the number above is.
+/// A chance in units, straight from the definition, ties to even: the whole half units, and whether
+/// anything is left over, say how far the number above is.
 pub fn nearest_units(chance: Chance) -> u64 {
     let twice = whole_chance(chance).times_u64(2 * U);
     let halves = twice.shifted_down(CHANCE_BITS).to_u64().expect("a chance is at most 1");

@@ -1,12 +1,12 @@
--- `compare::spell` meets its contract: digit after digit from the last place on. Assumes nothing.
+-- `decimals::spell` meets its contract: digit after digit from the last place on. Assumes nothing.
 use Prim.Native.Nat.{_+_, _-_, _≤_}
 use mathlib.Core.Path.{_≡_, refl}
 use native.Mathlib.Omega.{arith}
 use lib.ListN.{length, length-set}
-use Rattle.compare.proofs.Digits.{Spelled, start, turn}
+use Rattle.decimals.proofs.Digits.{Spelled, start, turn}
 use borrow.Author.Needs.{needs}
-use Rattle.compare.proofs.spell.Statement.{statement}
-use Rattle.compare.proofs.spell.Tie as tie
+use Rattle.decimals.proofs.spell.Statement.{statement}
+use Rattle.decimals.proofs.spell.Tie as tie
 
 abbrev Inv-loop : tie.InvT-loop
 Inv-loop number text₀ rest₀ i₀ text rest i =

@@ -8,7 +8,7 @@ use native.Mathlib.Nat.{pow-suc, div-one, div-div-eq-div-mul}
 use native.Mathlib.Omega.{arith}
 use lib.ListN.{length, getD, set}
 use lib.Seq.{getD-set-same, getD-set-other}
-use Rattle.compare.specs.Decimals.{decimal}
+use Rattle.decimals.specs.Decimals.{decimal}
 
 -- the digits from place i on are there, and what is left of the number
 pub record Spelled (number : ℕ) (text : List ℕ) (rest i : ℕ) : Type 0 where
