@@ -14,10 +14,11 @@ unfolding shownParts
 returns c =
     let units = c .before .args .units in
     let fits = c .before .fits .units .fits in
-    let close = near (2 * units * 9_765_625) 2_097_152 (omega arith) in
-    (c .rounded .ensures
-    ∙ same-fraction (2 * units * 9_765_625) 2_097_152 (units * partsInOne) unitsInOne (omega arith) (omega arith) (omega arith)
-    , omega (arith, c .rounded .ensures, close .up, fits))
+    let close = near (2 * units * 9_765_625) 2_097_152 (omega arith) in (
+      c .rounded .ensures
+          ∙ same-fraction (2 * units * 9_765_625) 2_097_152 (units * partsInOne) unitsInOne (omega arith) (omega arith) (omega arith),
+      omega (arith, c .rounded .ensures, close .up, fits),
+    )
 
 pub shown-parts-spec : {M : Type 1} → statement M
 shown-parts-spec =
