@@ -108,6 +108,7 @@
  *          definitions or with none, gates in a loop                           line
  *     20   the slice for the text's image is shorter than the image            0
  *     21   the slice for the area's image is shorter than the image            0
+ *     22   a chance above 0.5: a gate's in an image, or the call's             gate
  *
  * Where a place is a position in a list, it is the lowest one that is wrong.
  *
@@ -140,9 +141,10 @@ extern "C" {
 #endif
 
 /* Raised with every change to a function, a number, a layout or a figure that this file speaks of. */
-#define BENCH_VERSION 7
+#define BENCH_VERSION 8
 
 #define BENCH_ONE UINT32_C(1073741824)
+#define BENCH_FLIP_MAX UINT32_C(536870912)
 #define BENCH_INPUTS_MAX 12
 #define BENCH_GATES_MAX 1024
 #define BENCH_OUTPUTS_MAX 64
@@ -192,6 +194,7 @@ extern "C" {
 #define BENCH_REFUSED_TEXT_MODEL 19
 #define BENCH_REFUSED_SHORT_IMAGE 20
 #define BENCH_REFUSED_SHORT_WRITTEN 21
+#define BENCH_REFUSED_ABOVE_HALF 22
 
 /*
  * Opens a netlist image in the area, with pattern 0 and every figure worked out. What the area held
@@ -200,8 +203,8 @@ extern "C" {
  * Done: *live is the number of live gates (those that an output reads, or a live gate), and the area
  * holds the netlist. Words past those that it takes are as before.
  *
- * Refused, in this order: 1, 2, 3, 4; then gate by gate 5, 6, 7; then output by output 8; then 9; then
- * 13, where the area is shorter than the image's counts need.
+ * Refused, in this order: 1, 2, 3, 4; then gate by gate 5, 6, 7, 22; then output by output 8; then 9;
+ * then 13, where the area is shorter than the image's counts need.
  */
 uint64_t bench_open(uint32_t *area, size_t area_len, const uint8_t *image, size_t image_len, uint32_t *live);
 
@@ -224,14 +227,16 @@ uint64_t bench_toggle_input(uint32_t *area, size_t area_len, uint32_t input);
  *     BENCH_FLIP_STRIKE   the low half is the bits of a float, the strike chance, the high half those of
  *                         another, the latching window; the two multiplied exactly are the chance
  *
- * A float that is not finite, is below 0 or is above 1 is refused; minus zero is taken for zero. The
- * chance is rounded to units once, to the nearest, a half to the even one.
+ * A float that is not finite, is below 0 or is above 1 is refused; minus zero is taken for zero. So is a
+ * chance above 0.5, before it is rounded, with 22: it is how often the gate does not flip, written down
+ * in the wrong place. A chance is rounded to units once, to the nearest, a half to the even one, so to at
+ * most BENCH_FLIP_MAX.
  *
  * Done: the gate has the new flip; it and the gates that depend on it are worked out again, and so are
  * the reliability and, where the gate is live, the raw flip sum. The words of every other gate are as
  * before.
  *
- * Refused, in this order: 13 and 14 of the area; 10 with place `gate`; 11 with place `gate`.
+ * Refused, in this order: 13 and 14 of the area; 10, 11 and 22, each with place `gate`.
  */
 uint64_t bench_set_flip(uint32_t *area, size_t area_len, uint32_t gate, uint8_t kind, uint64_t field);
 
@@ -341,7 +346,8 @@ uint64_t bench_write_image(const uint32_t *area, size_t area_len, uint8_t *image
  * they read: the image always goes on with the first in the text that reads only what is there already.
  *
  * Done: *bytes is the image's length, 20 G + 2 K + 16, at most BENCH_BLIF_IMAGE_MAX, and that many bytes
- * of image are the image, which passes refusals 1 to 8; bench_open may give 9, where gates are shared.
+ * of image are the image, which passes refusals 1 to 8 and 22; bench_open may give 9, where gates are
+ * shared.
  * The bytes past it are as before. The text is only read.
  *
  * Refused, in this order. The first line is line 1; continued lines are told by their first one.
@@ -368,7 +374,7 @@ uint64_t bench_read_blif(const uint8_t *text, size_t text_len, uint8_t *image, s
  * BENCH_FLIP_NEVER, 1 for each pin after the first with which a live gate reads a gate, and 1 for each
  * output after the first that reads one. *live is the number of live gates.
  *
- * Refused: 1 to 9 as bench_open does.
+ * Refused: 1 to 9 and 22 as bench_open does.
  */
 uint64_t bench_error_of_image(const uint8_t *image, size_t image_len, uint32_t *halves, uint32_t *live);
 
@@ -401,7 +407,8 @@ typedef struct bench_comparison {
  * others; under each pattern of the first two the exact chances differ in the same direction. With unlike
  * inputs all three are 0.
  *
- * Refused: 1 to 9 of the first image as bench_open does, then of the second. BENCH_IMAGE says which it is.
+ * Refused: 1 to 9 and 22 of the first image as bench_open does, then of the second. BENCH_IMAGE says
+ * which it is.
  */
 uint64_t bench_compare(const uint8_t *first, size_t first_len, const uint8_t *second, size_t second_len,
                        bench_comparison *result);

@@ -2,8 +2,8 @@
    average, counts_by_flip and counts_by_mask on forests of 2-, 3- and 4-pin gates, a chain, a forest whose gates are mostly dead, 64 narrow trees of three
    inputs each and one balanced tree; 12 inputs, 1,024 gates, and 4,096 random patterns for the counts. Average stands beside the faster of two walks in C, over
    every gate and in Gray order, and beside its own walk in C (rows). Build and run: speed/run-calls.
-   The C steps make the same checks as the library: refusals 1 to 9 and 13 at opening, 13 and 14 on every other call, 15 to 17 before counting, 21 before
-   writing. */
+   The C steps make the same checks as the library: refusals 1 to 9, 22 and 13 at opening, 13 and 14 on every other call, 11 and 22 before setting, 15 to
+   17 before counting, 21 before writing. */
 #include "netlists.h"
 
 #define U 1073741824ull
@@ -79,7 +79,7 @@ static int c_judge_live(const uint32_t *a, size_t len, uint32_t *live) {
     if (a[7] || a[3] >= 1u << a[0] || a[4] > U) return 14;
     for (uint32_t j = 0; j < a[1]; j++) {
         const uint32_t *g = a + 8 + 8 * j;
-        if (c_gate_bad(g[0], g[1], g + 2, a[0] + j) || g[6] > U || g[7] > 2 * U + 1) return 14;
+        if (c_gate_bad(g[0], g[1], g + 2, a[0] + j) || g[6] > U / 2 || g[7] > 2 * U + 1) return 14;
     }
     for (uint32_t k = 0; k < a[2]; k++) if (a[8 + 8 * a[1] + k] >= a[0] + a[1]) return 14;
     return c_sum(a, live) == (a[5] | (uint64_t)a[6] << 32) ? 0 : 14;
@@ -111,20 +111,22 @@ __attribute__((noinline)) static uint64_t c_toggle(uint32_t *a, size_t len, uint
     return 0;
 }
 
-static int c_units(uint8_t kind, uint64_t field, uint32_t *units) {
+/* 0, or the refusal: `bad` for a kind or field that is none, 22 for a chance above 0.5 */
+static int c_units(uint8_t kind, uint64_t field, int bad, uint32_t *units) {
     double x;
-    if (kind == 0) { *units = 0; return field == 0; }
+    if (kind == 0) { *units = 0; return field == 0 ? 0 : bad; }
     if (kind == 1) memcpy(&x, &field, 8);
     else if (kind == 2) {
         float p, w;
         uint32_t lo = (uint32_t)field, hi = (uint32_t)(field >> 32);
         memcpy(&p, &lo, 4), memcpy(&w, &hi, 4);
-        if (!(p >= 0 && p <= 1 && w >= 0 && w <= 1)) return 0;
+        if (!(p >= 0 && p <= 1 && w >= 0 && w <= 1)) return bad;
         x = (double)p * (double)w;
-    } else return 0;
-    if (!(x >= 0 && x <= 1)) return 0;
+    } else return bad;
+    if (!(x >= 0 && x <= 1)) return bad;
+    if (x > 0.5) return 22;
     *units = (uint32_t)((uint64_t)(x * 1073741824.0 + 4503599627370496.0) - 4503599627370496);
-    return 1;
+    return 0;
 }
 
 __attribute__((noinline)) static uint64_t c_set(uint32_t *a, size_t len, uint32_t gate, uint8_t kind, uint64_t field) {
@@ -133,7 +135,7 @@ __attribute__((noinline)) static uint64_t c_set(uint32_t *a, size_t len, uint32_
     uint32_t units;
     if (no) return (uint64_t)no << 32;
     if (gate >= a[1]) return 10ull << 32 | gate;
-    if (!c_units(kind, field, &units)) return 11ull << 32 | gate;
+    if ((no = c_units(kind, field, 11, &units))) return (uint64_t)no << 32 | gate;
     uint8_t mark[1036] = {0};
     if (live[a[0] + gate]) c_store_sum(a, (a[5] | (uint64_t)a[6] << 32) - a[8 + 8 * gate + 6] + units);
     a[8 + 8 * gate + 6] = units;
@@ -167,7 +169,7 @@ __attribute__((noinline)) static uint64_t c_open(uint32_t *a, size_t len, const 
         for (int i = 0; i < 4; i++) o[2 + i] = get16(r + 4 + 2 * i);
         int no = c_gate_bad(o[0], o[1], o + 2, n + j);
         if (no) return (uint64_t)no << 32 | j;
-        if (!c_units(r[1], field, &o[6])) return 7ull << 32 | j;
+        if ((no = c_units(r[1], field, 7, &o[6]))) return (uint64_t)no << 32 | j;
         o[7] = 0;
     }
     for (uint32_t i = 0; i < k; i++) if ((w[8 + 8 * g + i] = get16(m + 20 * g + 2 * i)) >= n + g) return 8ull << 32 | i;

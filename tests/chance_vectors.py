@@ -4,7 +4,8 @@
     tests/chance_vectors.py            writes crates/chance_vectors/stdin and stdout
     tests/chance_vectors.py --check    says whether both files are what it would write
 
-A vector has 14 bytes: the kind, the eight bytes of the field, 1 if the field is accepted (else 0), and the units as a little-endian u32.
+A vector has 14 bytes: the kind, the eight bytes of the field, 0 if the field is refused, 1 if it is accepted and 2 if its chance is above 0.5, and the
+units as a little-endian u32.
 """
 import pathlib
 import random
@@ -71,10 +72,11 @@ def chance(kind, field):
 
 def vector(kind, field):
     exact = chance(kind, field)
-    units = 0
+    answer, units = 0, 0
     if exact is not None:
+        answer = 2 if exact > HALF else 1
         units = round(exact * UNITS_IN_ONE)  # a half goes to the even whole number
-    return bytes([kind]) + field + bytes([exact is not None]) + units.to_bytes(4, "little")
+    return bytes([kind]) + field + bytes([answer]) + units.to_bytes(4, "little")
 
 
 def plain(bits):
@@ -89,7 +91,9 @@ def around(bits):
     return [bits - 1, bits, bits + 1]
 
 
+HALF = Fraction(1, 2)
 ONE64, ONE32 = pattern(Fraction(1), F64), pattern(Fraction(1), F32)
+HALF64, HALF32 = pattern(HALF, F64), pattern(HALF, F32)
 INF64, INF32 = 0x7FF << 52, 0xFF << 23
 MINUS64, MINUS32 = 1 << 63, 1 << 31
 
@@ -114,12 +118,26 @@ def fixed_fields():
         yield strike(first | MINUS32, ONE32)
         yield strike(ONE32, first | MINUS32)
         yield strike(first | MINUS32, MINUS32)
+    for first in around(HALF32):
+        for second in around(ONE32):
+            yield strike(first, second)
+            yield strike(second, first)
+    # products that are 0.5 but for one or two of 2^-48
+    for first, second in [(10610063, 13264529), (8388609, 16777214), (8392705, 16769026)]:
+        yield strike(pattern(Fraction(first, 2**24), F32), pattern(Fraction(second, 2**24), F32))
     for kind in range(256):
         yield kind, bytes(8)
     for kind in (0, 3, 4, 255):
         for place in range(8):
             for byte in (1, 0x80):
                 yield kind, bytes(byte if i == place else 0 for i in range(8))
+
+
+def beside_half(rng):
+    """Two f32 whose exact product lies as close to 0.5 as 24 digits allow."""
+    first = rng.randrange(2**23 + 1, 2**24)
+    second = 2**47 // first + rng.choice([0, 1])
+    return strike(pattern(Fraction(first, 2**24), F32), pattern(Fraction(second, 2**24), F32))
 
 
 def near_half(rng):
@@ -134,7 +152,7 @@ def near_half(rng):
 
 
 def random_field(rng):
-    choice = rng.randrange(12)
+    choice = rng.randrange(14)
     if choice == 0:  # an exact half unit, and its neighbours
         return plain(rng.choice(around(pattern(Fraction(2 * rng.randrange(2 ** rng.randrange(1, 31)) + 1, 2**31), F64))))
     if choice == 1:  # a whole unit, and its neighbours
@@ -157,6 +175,10 @@ def random_field(rng):
         nan = INF32 + rng.randrange(1, 2**23) + rng.choice([0, MINUS32])
         fine = rng.randrange(ONE32 + 1)
         return rng.choice([strike(nan, fine), strike(fine, nan), plain(INF64 + rng.randrange(1, 2**52) + rng.choice([0, MINUS64]))])
+    if choice == 11:  # a strike next to 0.5
+        return beside_half(rng)
+    if choice == 12:  # a chance within two units of 0.5
+        return plain(HALF64 - 2**22 + rng.randrange(2**24))
     return rng.randrange(4), rng.randbytes(8)
 
 

@@ -48,6 +48,8 @@ static void images(void) {
     expect("BENCH_REFUSED_GATE", damaged(GATE, (BENCH_PINS_MAX + 1) | kind), BENCH_REFUSED_GATE, 1);
     expect("BENCH_REFUSED_PIN", damaged(GATE + 4, 3), BENCH_REFUSED_PIN, 1);
     expect("BENCH_REFUSED_FLIP", damaged(GATE, 1 | (BENCH_FLIP_STRIKE + 1) << 8), BENCH_REFUSED_FLIP, 1);
+    expect("BENCH_REFUSED_ABOVE_HALF", damaged(GATE + 18, 0x3FF0), BENCH_REFUSED_ABOVE_HALF, 1);
+    expect("just above 0.5", damaged(GATE + 12, 1), BENCH_REFUSED_ABOVE_HALF, 1);
     expect("BENCH_REFUSED_OUTPUT", damaged(OUTPUT, 5), BENCH_REFUSED_OUTPUT, 0);
     expect("BENCH_REFUSED_SHARED", damaged(2 * GATE + 6, 2), BENCH_REFUSED_SHARED, 0);
 }
@@ -56,14 +58,20 @@ static void calls(void) {
     static uint8_t longest[BENCH_IMAGE_MAX + 1];
     uint32_t weights[4] = {1, BENCH_WEIGHT_MAX, 1, 1}, live, units;
     uint64_t strike = UINT64_C(0x3F0000003F800000); /* 1 times 0.5 */
+    uint64_t above = UINT64_C(0x3F0000013F800000);  /* 1 times the float after 0.5 */
     expect("the whole image", damaged(OUTPUT, 4), 0, 0);
     if (BENCH_FLIP_SUM(area) != BENCH_ONE) exit(printf("header: BENCH_FLIP_SUM is not that of two chances of 0.5\n"));
     expect("BENCH_FLIP_STRIKE", bench_set_flip(area, BENCH_WORDS(3, 1), 0, BENCH_FLIP_STRIKE, strike), 0, 0);
+    if (area[8 + 6] != BENCH_FLIP_MAX) exit(printf("header: BENCH_FLIP_MAX is not a chance of 0.5\n"));
+    area[8 + 6]++, area[5]++; /* one unit more in gate 0, and in the sum */
+    expect("above BENCH_FLIP_MAX", bench_toggle_input(area, BENCH_WORDS(3, 1), 0), BENCH_REFUSED_AREA, 0);
+    area[8 + 6]--, area[5]--;
     expect("BENCH_WEIGHT_MAX", bench_average(area, BENCH_WORDS(3, 1), weights, 4, &units), 0, 0);
     weights[1]++;
     expect("BENCH_REFUSED_WEIGHTS", bench_average(area, BENCH_WORDS(3, 1), weights, 4, &units), BENCH_REFUSED_WEIGHTS, 1);
     expect("BENCH_REFUSED_NAMED", bench_toggle_input(area, BENCH_WORDS(3, 1), 2), BENCH_REFUSED_NAMED, 2);
     expect("BENCH_REFUSED_NEW_FLIP", bench_set_flip(area, BENCH_WORDS(3, 1), 0, BENCH_FLIP_NEVER, 1), BENCH_REFUSED_NEW_FLIP, 0);
+    expect("BENCH_REFUSED_ABOVE_HALF", bench_set_flip(area, BENCH_WORDS(3, 1), 2, BENCH_FLIP_STRIKE, above), BENCH_REFUSED_ABOVE_HALF, 2);
     expect("BENCH_REFUSED_SHORT_AREA", bench_toggle_input(area, BENCH_WORDS(3, 1) - 1, 0), BENCH_REFUSED_SHORT_AREA, 0);
     memcpy(longest + BENCH_IMAGE_MAX - LENGTH, WHOLE, LENGTH);
     longest[BENCH_IMAGE_MAX - 4] = BENCH_IMAGE_MAX & 255; /* the total */

@@ -131,7 +131,7 @@ fn answer<T>(returned: u64, result: T) -> Result<T, Refusal> {
 /// Opens an image in the area, with pattern 0, and tells how many gates are live. The area needs
 /// [`words`](crate::words) of the image's counts; [`MAX_WORDS`](crate::MAX_WORDS) always do.
 ///
-/// Refused in this order: 1 to 4; gate by gate 5, 6, 7; output by output 8; 9; 13.
+/// Refused in this order: 1 to 4; gate by gate 5, 6, 7, 22; output by output 8; 9; 13.
 pub fn open(area: &mut [u32], image: &[u8]) -> Result<u32, Refusal> {
     let mut live = 0;
     // SAFETY: both slices go with their own lengths, and `live` outlives the call.
@@ -152,7 +152,7 @@ pub fn toggle_input(area: &mut [u32], input: u32) -> Result<(), Refusal> {
 
 /// Sets how one gate flips, and works out that gate and what depends on it.
 ///
-/// Refused in this order: 13, 14, 10, 11.
+/// Refused in this order: 13, 14, 10, 11, 22.
 pub fn set_flip(area: &mut [u32], gate: u32, flip: Flip) -> Result<(), Refusal> {
     let field = u64::from_le_bytes(flip.field());
     // SAFETY: the slice goes with its own length.
@@ -282,7 +282,7 @@ pub fn write_image(area: &[u32], image: &mut [u8]) -> Result<u32, Refusal> {
 /// One model is read: `.model`, `.inputs`, `.outputs`, `.names` of up to four sources with their cover
 /// lines, `.end`, with comments and continued lines. Gates may be listed before what they read: the
 /// image always goes on with the first in the text that reads only what is there already. The image
-/// passes refusals 1 to 8; [`open`] may still refuse it with 9, where gates are shared.
+/// passes refusals 1 to 8 and 22; [`open`] may still refuse it with 9, where gates are shared.
 ///
 /// Refused in this order; the place is a line, counted from 1, and a continued line has the number of
 /// its first:
@@ -355,7 +355,7 @@ pub struct Comparison {
 
 /// The error of an image's figures as it is opened, by its flip kinds. It takes no area.
 ///
-/// Refused: 1 to 9 as [`open`] does.
+/// Refused: 1 to 9 and 22 as [`open`] does.
 pub fn error_of_image(image: &[u8]) -> Result<ErrorBound, Refusal> {
     let (mut halves, mut live) = (0, 0);
     // SAFETY: the slice goes with its own length, and both results outlive the call.
@@ -368,7 +368,7 @@ pub fn error_of_image(image: &[u8]) -> Result<ErrorBound, Refusal> {
 /// averages differ by more than both errors and 2, and then the exact averages differ in the same
 /// direction. It takes no area, and up to 264 KB of stack.
 ///
-/// Refused: 1 to 9 of the first image as [`open`] does, then of the second.
+/// Refused: 1 to 9 and 22 of the first image as [`open`] does, then of the second.
 pub fn compare(first: &[u8], second: &[u8]) -> Result<Comparison, ImageRefusal> {
     let mut to = c::Comparison::default();
     // SAFETY: both slices go with their own lengths, and the result outlives the call.

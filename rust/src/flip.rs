@@ -1,11 +1,12 @@
-/// How a gate flips. A chance is rounded once, to the nearest unit, and a half to the even unit.
+/// How a gate flips. The bench refuses a chance above 0.5, before rounding; others are rounded once, to
+/// the nearest unit, and a half to the even unit.
 #[derive(Clone, Copy, Debug, PartialEq)]
 pub enum Flip {
     /// It never flips.
     Never,
-    /// It flips with this chance, from 0 to 1.
+    /// It flips with this chance, from 0 to 0.5.
     Chance(f64),
-    /// It flips with the exact product of both numbers, each from 0 to 1.
+    /// It flips with the exact product of both numbers, each from 0 to 1 and the product at most 0.5.
     Strike { chance: f32, window: f32 },
     /// The kind and the eight bytes of a gate record as they stand, to be judged by the bench.
     Raw { kind: u8, field: [u8; 8] },

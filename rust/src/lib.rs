@@ -134,6 +134,8 @@ pub use refusal::{ImageRefusal, Refusal, Which};
 
 /// One, in units.
 pub const ONE: u32 = 1 << 30;
+/// The largest flip of a gate, in units: a chance of 0.5.
+pub const MAX_FLIP: u32 = ONE / 2;
 /// The most inputs that a netlist has.
 pub const MAX_INPUTS: usize = 12;
 /// The most gates that a netlist has.

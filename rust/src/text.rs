@@ -46,7 +46,7 @@ impl Module {
     /// The line of the gate or output that a refused opening of the image names.
     pub fn line_of(&self, refusal: Refusal) -> Option<usize> {
         let lines = match refusal.number {
-            5 | 6 | 7 | 9 => &self.gate_lines,
+            5 | 6 | 7 | 9 | 22 => &self.gate_lines,
             8 => &self.output_lines,
             _ => return None,
         };
@@ -55,7 +55,7 @@ impl Module {
 }
 
 /// Reads a text. A good text can still make an image that opening refuses: for a flip given as `raw`
-/// (7), or for a gate that is read more than once (9).
+/// (7), for a chance above 0.5 (22), or for a gate that is read more than once (9).
 pub fn read(text: &str) -> Result<Module, TextError> {
     let mut reader = Reader::default();
     for line in text.lines() {

@@ -3,7 +3,7 @@
 use filzaod::{average, counts_by_flip, counts_by_mask, read_blif, write_image, written};
 use filzaod::{compare, error_of_image, ErrorBound, Module, PatternCounts, Verdict, Which};
 use filzaod::{open, read_gate, read_netlist, set_flip, text, toggle_input, words};
-use filzaod::{Flip, GateReading, Refusal, MAX_LISTED, MAX_WEIGHT, MAX_WORDS, ONE};
+use filzaod::{Flip, GateReading, Refusal, MAX_FLIP, MAX_LISTED, MAX_WEIGHT, MAX_WORDS, ONE};
 
 const WORDS: usize = words(3, 1);
 const UNTOUCHED: u32 = 0x5AFE_C0DE;
@@ -71,13 +71,15 @@ fn every_way_to_set_a_flip() {
     let flips = [
         (Flip::Never, 0),
         (Flip::Chance(0.05), 53_687_091),
-        (Flip::Chance(1.0), ONE),
+        (Flip::Chance(0.5), MAX_FLIP),
+        (Flip::Chance(0.5 - f64::EPSILON / 4.0), MAX_FLIP),
+        (Flip::Strike { chance: 0.5, window: 1.0 }, MAX_FLIP),
         (Flip::Chance(-0.0), 0),
         (Flip::Chance(0.5 / f64::from(ONE)), 0),
         (Flip::Chance(1.5 / f64::from(ONE)), 2),
         (Flip::Chance(2.5 / f64::from(ONE)), 2),
         (Flip::Strike { chance: 0.5, window: 0.25 }, ONE / 8),
-        (Flip::Raw { kind: 1, field: 0.5f64.to_le_bytes() }, ONE / 2),
+        (Flip::Raw { kind: 1, field: 0.5f64.to_le_bytes() }, MAX_FLIP),
     ];
     for (flip, failure) in flips {
         set_flip(&mut area, 1, flip).expect("a good flip");
@@ -96,6 +98,12 @@ fn refused_calls_have_number_and_place() {
     refused(area, 11, 1, |area| set_flip(area, 1, Flip::Chance(f64::NAN)));
     refused(area, 11, 1, |area| set_flip(area, 1, Flip::Strike { chance: 1.5, window: 0.0 }));
     refused(area, 11, 2, |area| set_flip(area, 2, Flip::Raw { kind: 3, field: [0; 8] }));
+    refused(area, 22, 0, |area| set_flip(area, 0, Flip::Chance(1.0)));
+    refused(area, 22, 1, |area| set_flip(area, 1, Flip::Chance(0.5 + f64::EPSILON / 2.0)));
+    // 8,392,705 × 16,769,026 of 2^48 are 0.5 + 2^-47, which is nearest to MAX_FLIP units.
+    let [chance, window] = [8_392_705, 16_769_026].map(|digits| digits as f32 / 16_777_216.0);
+    refused(area, 22, 2, |area| set_flip(area, 2, Flip::Strike { chance, window }));
+    refused(area, 10, 3, |area| set_flip(area, 3, Flip::Chance(1.0)));
     refused(area, 12, 0, |area| average(area, &[1; 3]));
     refused(area, 12, 0, |area| average(area, &[]));
     refused(area, 12, 2, |area| average(area, &[1, 1, MAX_WEIGHT + 1, u32::MAX]));
@@ -105,6 +113,9 @@ fn refused_calls_have_number_and_place() {
     refused(&mut area[..WORDS - 1], 13, 0, |area| average(area, &[1; 4]));
     refused(&mut [], 13, 0, |area| toggle_input(area, 0));
     refused(&mut [], 13, 0, |area| read_netlist(area));
+    // One unit more than a flip may have, in gate 0 and in the sum.
+    (area[5], area[14]) = (area[5] + 1, area[14] + 1);
+    refused(area, 14, 0, |area| read_netlist(area));
     area[5] = 1;
     refused(area, 14, 0, |area| read_netlist(area));
     refused(area, 14, 0, |area| set_flip(area, 9, Flip::Never));
@@ -180,6 +191,7 @@ fn refused_images_have_number_and_place() {
         (5, 1, damaged(20, &[5])),
         (6, 1, damaged(24, &[3])),
         (7, 2, damaged(41, &[3])),
+        (22, 1, damaged(32, &[1])),
         (8, 0, damaged(output, &[5])),
         (9, 0, damaged(46, &[2])),
     ];
@@ -191,11 +203,11 @@ fn refused_images_have_number_and_place() {
 
 #[test]
 fn every_refusal_can_be_read() {
-    for number in 1..=21 {
+    for number in 1..=22 {
         let said = Refusal { number, place: 77 }.to_string();
         assert!(said.starts_with(&format!("refused {number} 77: ")), "{said}");
         assert!(said.len() > 20 && !said.contains("unknown"), "{said}");
-        let named = matches!(number, 5..=11 | 16 | 18 | 19);
+        let named = matches!(number, 5..=11 | 16 | 18 | 19 | 22);
         assert_eq!(said.matches("77").count(), if named { 2 } else { 1 }, "{said}");
         assert_eq!(Refusal { number, place: 77 }.place_is().is_some(), named, "{said}");
     }
@@ -207,8 +219,8 @@ fn every_refusal_can_be_read() {
     );
     let long = Refusal { number: 18, place: 0 };
     assert_eq!((long.place_is(), long.sentence().contains("line")), (None, false));
-    let later = Refusal { number: 22, place: 0 };
-    assert_eq!(later.to_string(), "refused 22 0: unknown to this package");
+    let later = Refusal { number: 23, place: 0 };
+    assert_eq!(later.to_string(), "refused 23 0: unknown to this package");
 }
 
 /// That writing is refused so, and changes no byte.

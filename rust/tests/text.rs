@@ -137,6 +137,7 @@ fn a_refusal_has_the_line_of_its_gate_or_output() {
     let refusal = open(&mut [0; MAX_WORDS], &module.image).unwrap_err();
     assert_eq!((refusal, module.line_of(refusal)), (Refusal { number: 9, place: 0 }, Some(2)));
     assert_eq!(module.line_of(Refusal { number: 7, place: 1 }), Some(4));
+    assert_eq!(module.line_of(Refusal { number: 22, place: 1 }), Some(4));
     assert_eq!(module.line_of(Refusal { number: 8, place: 0 }), Some(5));
     assert_eq!(module.line_of(Refusal { number: 5, place: 2 }), None);
     assert_eq!(module.line_of(Refusal { number: 13, place: 0 }), None);

@@ -46,6 +46,10 @@ fn an_image_that_is_refused_comes_with_a_warning() {
     let said = "make_image: warning: line 2: the image is refused 9 0: gate 0 is read more than once by live gates \
                 and outputs\n";
     assert_eq!(outcome(&make_image(&[], text)), (said.into(), Some(0), 40));
+    let text = b"inputs 1\ngate a 2 pins 0 chance 0.5\ngate b 2 pins a chance 0.95\noutput b\n";
+    let said = "make_image: warning: line 3: the image is refused 22 1: the flip for gate 1 has \
+                a chance above 0.5\n";
+    assert_eq!(outcome(&make_image(&[], text)), (said.into(), Some(0), 58));
 }
 
 #[test]

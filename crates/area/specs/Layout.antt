@@ -5,7 +5,6 @@ use mathlib.Core.Bool.{cond}
 use mathlib.Core.List.{List, [], _∷_}
 use lib.ListN.{getD, take, drop}
 use lib.Dec.{ltb}
-use Rattle.rounding.specs.Rounding.{unitsInOne}
 
 -- ---- limits
 
@@ -33,9 +32,9 @@ mostPatterns = 4096
 abbrev pub mostWords : ℕ
 mostWords = 8264
 
--- U
+-- U / 2: no gate flips more often than not
 abbrev pub largestFlip : ℕ
-largestFlip = unitsInOne
+largestFlip = 536_870_912
 
 -- 2 × U + 1
 abbrev pub largestFigure : ℕ

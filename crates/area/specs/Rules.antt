@@ -26,7 +26,7 @@ usedBelow limit a ps = allBelow limit (take a ps)
 unfoldable pub countsInRange : ℕ → ℕ → ℕ → Bool
 countsInRange n g k = leb n mostInputs && (leb g mostGates && (leb 1 k && leb k mostOutputs))
 
--- rule 14 for gate j: 5 and 6, flip at most U, last word at most 2 × U + 1
+-- rule 14 for gate j: 5 and 6, flip at most U / 2, last word at most 2 × U + 1
 unfoldable pub gateSound : List ℕ → ℕ → Bool
 gateSound ws j =
     gateShape (pinCount ws j) (table ws j) (pins ws j)

@@ -24,10 +24,11 @@ pub const MOST_PATTERNS: usize = 4096;
 // Words that the largest netlist needs.
 pub const MOST_WORDS: usize = HEAD_WORDS + GATE_WORDS * MOST_GATES + MOST_OUTPUTS;
 
-pub const LARGEST_FLIP: u32 = 1_073_741_824;
+// U / 2: no gate flips more often than not.
+pub const LARGEST_FLIP: u32 = rounding::ONE / 2;
 
 // 2 × U + 1.
-pub const LARGEST_FIGURE: u32 = 2 * LARGEST_FLIP + 1;
+pub const LARGEST_FIGURE: u32 = 2 * rounding::ONE + 1;
 
 pub const LARGEST_WEIGHT: u32 = 1_048_575;
 

@@ -225,7 +225,7 @@ fn judge_gate_summed(area: &[u32], gate: u32, sum: u64) -> Judgement
     }
 }
 
-// The gate exists, and has so many live readers: refusal 11, else the flip is set, and with it the raw flip sum.
+// The gate exists, and has so many live readers: refusals 11 and 22, else the flip is set, and with it the raw flip sum.
 fn set_known_flip(
     area: &mut [u32],
     gate: u32,
@@ -246,6 +246,7 @@ fn set_known_flip(
             area::store_sum(area, live::changed_sum(sum, live, old, units));
             FlipSet::Done
         }
+        FlipUnits::AboveHalf => FlipSet::Refused(refusal::ABOVE_HALF, gate),
         FlipUnits::Refused => FlipSet::Refused(refusal::CALL_FLIP, gate),
     }
 }

@@ -53,7 +53,7 @@ EarliestNext =
 abbrev pub SourcesFirst : Type 0
 SourcesFirst = (ls : List Line) → modelFault ls ≡ Fine → PinsBelow (modelNet ls)
 
--- the image that an accepted text becomes passes refusals 1 to 8
+-- the image that an accepted text becomes passes refusals 1 to 8 and 22
 abbrev pub ImagePasses : Type 0
 ImagePasses = (text : List ℕ) (room : ℕ) → blifRefusal text room ≡ Fine → imageRefusal (imageOf (modelNet (textLines text))) ≡ Fine
 

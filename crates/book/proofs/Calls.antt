@@ -8,9 +8,9 @@ use native.Mathlib.Decide.{ℕ-discrete}
 use native.Mathlib.Omega.{arith}
 use lib.ListN.{getD, set, length-set}
 use lib.Seq.{getD-set-same, getD-set-other}
-use Rattle.chance.specs.Number.{chanceScale}
+use Rattle.chance.specs.Number.{chanceScale, atMostHalf}
 use Rattle.chance.specs.Flip.{flipAccepted, flipChance}
-use Rattle.chance.proofs.Laws.{flip-chance-at-most, flip-units-at-most, never-chance}
+use Rattle.chance.proofs.Laws.{flip-chance-at-most, low-units, never-chance}
 use Rattle.netlist.specs.Netlist.{Netlist}
 use Rattle.netlist.specs.declared.Method.{Method}
 use Rattle.netlist.specs.declared.Method.the-variants.{Flip}
@@ -84,9 +84,9 @@ shown-toggle i =
 -- ---- setting a flip
 
 flip-set : (g kind : ℕ) (field : List ℕ) (size : ℕ) (ws : List ℕ) (b : Book) → Agree size ws b → g < gates ws → flipAccepted kind field ≡ true
-    → Agree size (withSum (setWords ws g (flipUnits kind field))) (entered b (set-flip g kind field))
+    → atMostHalf (flipChance kind field) ≡ true → Agree size (withSum (setWords ws g (flipUnits kind field))) (entered b (set-flip g kind field))
 unfolding flipUnits
-flip-set g kind field size ws b agree l accepted =
+flip-set g kind field size ws b agree l accepted low =
     let units = flipUnits kind field in
     let chance = flipChance kind field in
     let worked = setWords ws g units in
@@ -95,7 +95,7 @@ flip-set g kind field size ws b agree l accepted =
     let net = net-same ws worked (agree .sound .workable .net) (same-set ws g units l) in
     let kinds = set (agree .kinds) g kind in
     let chances = set (agree .chances) g chance in
-    let fits = flip-units-at-most kind field accepted in
+    let fits = low-units kind field low in
     let count : gates after ≡ gates ws = same-gates ws after same in
     let kind-each = agree .kind-each in
     let chance-each = agree .chance-each in
@@ -146,7 +146,7 @@ shown-set g kind field =
       agrees =
           λ size ws b agree e.
           let both = set-fine (inputs ws) (gates ws) (outputs ws) g kind field e in
-          flip-set g kind field size ws b agree (both .0) (both .1);
+          flip-set g kind field size ws b agree (both .0) (both .1) (both .2);
       answers = λ size ws b agree e. tt;
     })
 

@@ -5,7 +5,7 @@ use mathlib.Core.List.{List, [], _∷_}
 use mathlib.Core.Path.{_≡_, refl}
 use lib.Ieee.{ofBits}
 use lib.ListN.{replicate}
-use Rattle.chance.specs.Number.{chanceScale, wholeChance, fromZeroToOne}
+use Rattle.chance.specs.Number.{chanceScale, wholeChance, atMostHalf, fromZeroToOne}
 use Rattle.chance.specs.Flip.{flipOf, inRange, flipAccepted, chanceOf, flipChance}
 use Rattle.netlist.specs.declared.Method.the-variants.{Flip, Mask}
 use Rattle.netlist.specs.Live.{liveReads, readers}
@@ -14,13 +14,13 @@ use Rattle.area.specs.Rules.{gateShape, usedBelow, countsInRange}
 use Rattle.refusal.specs.declared.Judgement.{Judgement}
 use Rattle.refusal.specs.declared.Judgement.the-variants.{Fine, Refused}
 use Rattle.image.specs.Image.{middle}
-use Rattle.image.specs.Refusals.{lengthRight, backRight, trailerRefusal, gateRefusal, outputRefusal, middleRefusal, imageRefusal}
+use Rattle.image.specs.Refusals.{lengthRight, backRight, trailerRefusal, flipRefusal, gateRefusal, outputRefusal, middleRefusal, imageRefusal}
 use Rattle.image.specs.Loading.{recordChance}
 use Rattle.live.specs.Shared.{sharedJudgement}
 use Rattle.calls.specs.Judgements.{openJudgement, weightsJudgement, countsJudgement, argumentJudgement}
 use Rattle.calls.specs.Judgements.{Call, open-image, toggle-input, set-flip, read-netlist, read-gate, take-average, count-seen, write-image}
 use Rattle.calls.specs.Calls.{openWords}
-use Rattle.calls.specs.Sheets.{printedImage}
+use Rattle.calls.specs.Sheets.{half, pastHalf, printedImage}
 use Rattle.image.specs.Netlist.{imageNet}
 use Rattle.book.specs.Book.{Book, imageBook, withFlip, heldJudgement, bookJudgement, bookStep}
 use Rattle.book.specs.Statement.{Kept}
@@ -28,8 +28,8 @@ use Rattle.book.proofs.List.{demand3}
 
 pub not-refused : imageRefusal printedImage ≡ Fine
 unfolding
-    imageRefusal trailerRefusal lengthRight countsInRange backRight middleRefusal middle gateRefusal outputRefusal gateShape usedBelow
-    flipAccepted inRange fromZeroToOne ofBits
+    imageRefusal trailerRefusal lengthRight countsInRange backRight middleRefusal middle gateRefusal flipRefusal outputRefusal gateShape usedBelow
+    flipAccepted inRange fromZeroToOne ofBits atMostHalf flipChance flipOf chanceOf wholeChance chanceScale
 not-refused = refl
 
 -- a buffer at chance 0.5, which is 2^1073 of the 2^1074 parts
@@ -54,14 +54,17 @@ pub too-short : openJudgement printedImage 32 ≡ Refused 13 0
 unfolding openJudgement sharedJudgement readers liveReads imageNet middle
 too-short = rw not-refused refl
 
--- what the book says of a list of calls: input 1 toggled; no input 2; gate 0 to flip never; not-a-number; no gate 3; three weights; weights 0;
--- counts of no patterns, of pattern 4 at position 1, into two entries, of pattern 3 twice; the image written into 77 bytes, into 78; an image of no bytes
+-- what the book says of a list of calls: input 1 toggled; no input 2; gate 0 to flip never; not-a-number; 0.5, and the f64 after it; no gate 3; three
+-- weights; weights 0; counts of no patterns, of pattern 4 at position 1, into two entries, of pattern 3 twice; the image written into 77 bytes, into 78;
+-- an image of no bytes
 abbrev calls : List Call
 calls =
     toggle-input 1
     ∷ toggle-input 2
     ∷ set-flip 0 0 (replicate 8 0)
     ∷ set-flip 1 1 (0 ∷ 0 ∷ 0 ∷ 0 ∷ 0 ∷ 0 ∷ 0xf8 ∷ 0x7f ∷ [])
+    ∷ set-flip 1 1 half
+    ∷ set-flip 1 1 pastHalf
     ∷ read-gate 3
     ∷ take-average (1 ∷ 1 ∷ 1 ∷ [])
     ∷ take-average (replicate 4 0)
@@ -85,6 +88,8 @@ pub said : judgements (imageBook printedImage) 33 calls
     ∷ Refused 10 2
     ∷ Fine
     ∷ Refused 11 1
+    ∷ Fine
+    ∷ Refused 22 1
     ∷ Refused 10 3
     ∷ Refused 12 0
     ∷ Refused 12 0
@@ -99,8 +104,8 @@ pub said : judgements (imageBook printedImage) 33 calls
     ∷ Fine
     ∷ []
 unfolding
-    heldJudgement argumentJudgement imageNet middle withFlip flipAccepted inRange fromZeroToOne ofBits weightsJudgement countsJudgement openJudgement
-    imageRefusal trailerRefusal lengthRight
+    heldJudgement argumentJudgement imageNet middle withFlip flipRefusal flipAccepted inRange fromZeroToOne ofBits atMostHalf flipChance flipOf chanceOf
+    wholeChance chanceScale weightsJudgement countsJudgement openJudgement imageRefusal trailerRefusal lengthRight
 said = refl
 
 -- and demand 3 speaks of it

@@ -13,7 +13,8 @@ use Rattle.refusal.specs.declared.Judgement.the-variants.{Fine, Refused}
 use Rattle.refusal.specs.Judgement.{refuseUnless, otherwise, lowest}
 use Rattle.refusal.proofs.Laws.{unless-fine, otherwise-fine, otherwise-second, otherwise-first, lowest-fine, otherwise-assoc}
 use Rattle.refusal.proofs.Laws.{Only, NotRule, only-fine, only-unless, only-otherwise, only-lowest}
-use Rattle.chance.specs.Flip.{flipAccepted}
+use Rattle.chance.specs.Number.{atMostHalf}
+use Rattle.chance.specs.Flip.{flipAccepted, flipChance}
 use Rattle.area.specs.Layout.{mostWords, largestWeight, mostListed, inputs, gates, outputs, needed}
 use Rattle.area.specs.Rules.{roomJudgement, areaJudgement, Sound}
 use Rattle.live.specs.Shared.{sharedJudgement}
@@ -23,13 +24,14 @@ use Rattle.rules.proofs.Sound.{sound, sound-passes}
 use Rattle.image.specs.Image.{imageLength, imageGates, imageOutputs}
 use Rattle.image.specs.Refusals.{imageRefusal}
 use Rattle.image.specs.Netlist.{imageNet}
+use Rattle.image.proofs.Flips.{flip-fine, only-flip}
 use Rattle.image.proofs.Numbers.{only-image}
 use Rattle.image.proofs.Right.{image-right}
 use Rattle.calls.specs.Judgements.{Call, open-image, toggle-input, set-flip, read-netlist, read-gate, take-average, count-seen, write-image}
 use Rattle.calls.specs.Judgements.{named, flipJudgement, weightJudgement, weightsJudgement, WeightsFit, listedJudgement, countsJudgement, sliceJudgement}
 use Rattle.calls.specs.Judgements.{openJudgement, imageJudgement, JudgedAsOpened, argumentJudgement, lentJudgement}
 
--- ---- 10 to 13, 15 to 17, 21
+-- ---- 10 to 13, 15 to 17, 21, 22
 
 pub named-fine : (x count : ℕ) → named x count ≡ Fine → x < count
 named-fine x count e = ltb-true x count (unless-fine (ltb x count) 10 x e)
@@ -89,11 +91,13 @@ pub gate-fine : (n g k x : ℕ) → argumentJudgement n g k (read-gate x) ≡ Fi
 unfolding argumentJudgement
 gate-fine n g k x e = named-fine x g e
 
-pub set-fine : (n g k x kind : ℕ) (field : List ℕ) → argumentJudgement n g k (set-flip x kind field) ≡ Fine → (x < g) × (flipAccepted kind field ≡ true)
+pub set-fine : (n g k x kind : ℕ) (field : List ℕ) → argumentJudgement n g k (set-flip x kind field) ≡ Fine
+    → (x < g) × (flipAccepted kind field ≡ true) × (atMostHalf (flipChance kind field) ≡ true)
 unfolding argumentJudgement
 set-fine n g k x kind field e =
     let both = otherwise-fine (named x g) (flipJudgement x kind field) e in
-    (named-fine x g (both .0), unless-fine (flipAccepted kind field) 11 x (both .1))
+    let flip = flip-fine 11 x kind field (both .1) in
+    (named-fine x g (both .0), flip .0, flip .1)
 
 pub write-fine : (n g k room : ℕ) → argumentJudgement n g k (write-image room) ≡ Fine → imageLength g k ≤ room
 unfolding argumentJudgement
@@ -191,7 +195,7 @@ only-arguments n g k (open-image bs) = only-fine NotRule
 only-arguments n g k (toggle-input i) = only-named i n
 only-arguments n g k (set-flip x kind field) =
     only-otherwise NotRule (named x g) (flipJudgement x kind field) (only-named x g)
-    (only-unless NotRule (flipAccepted kind field) 11 x (omega arith, omega arith))
+    (only-flip 11 x kind field (omega arith, omega arith))
 only-arguments n g k read-netlist = only-fine NotRule
 only-arguments n g k (read-gate x) = only-named x g
 only-arguments n g k (take-average weights) = only-weights n weights

@@ -4,7 +4,7 @@ use mathlib.Core.List.{List}
 use mathlib.Core.Path.{refl}
 use lib.Ieee.{ofBits}
 use Rattle.rounding.specs.Rounding.{roundDiv, blend, toUnits}
-use Rattle.chance.specs.Number.{chanceScale, wholeChance, fromZeroToOne}
+use Rattle.chance.specs.Number.{chanceScale, wholeChance, atMostHalf, fromZeroToOne}
 use Rattle.chance.specs.Flip.{flipOf, inRange, flipAccepted, chanceOf, flipChance, flipUnits, readUnits}
 use Rattle.figure.specs.Figure.{answer, difference, startValues, gateStep, gateFailure, gateWord, outputStep}
 use Rattle.netlist.specs.declared.Method.the-variants.{Flip, Mask}
@@ -18,7 +18,7 @@ use Rattle.area.specs.Figures.{gateWordFrom}
 use Rattle.work.specs.Work.{gateFigure, workGate, reliabilityNow, workReliability, workAll, setWords}
 use Rattle.live.specs.Shared.{sharedJudgement}
 use Rattle.image.specs.Image.{middle}
-use Rattle.image.specs.Refusals.{lengthRight, backRight, trailerRefusal, gateRefusal, outputRefusal, middleRefusal, imageRefusal}
+use Rattle.image.specs.Refusals.{lengthRight, backRight, trailerRefusal, flipRefusal, gateRefusal, outputRefusal, middleRefusal, imageRefusal}
 use Rattle.image.specs.Loading.{recordChance, recordUnits, middleWords, imageWords}
 use Rattle.image.specs.Netlist.{imageNet}
 use Rattle.calls.specs.Judgements.{openJudgement}
@@ -27,14 +27,15 @@ use Rattle.calls.specs.Sheets.{SheetsHold}
 
 pub sheets-hold : (ws : List ℕ) → SheetsHold ws
 unfolding
-    readUnits flipUnits flipAccepted inRange fromZeroToOne ofBits flipChance flipOf chanceOf wholeChance chanceScale toUnits roundDiv blend
-    openJudgement imageRefusal trailerRefusal lengthRight countsInRange backRight middleRefusal middle gateRefusal outputRefusal gateShape usedBelow
+    readUnits atMostHalf flipUnits flipAccepted inRange fromZeroToOne ofBits flipChance flipOf chanceOf wholeChance chanceScale toUnits roundDiv blend
+    openJudgement imageRefusal trailerRefusal lengthRight countsInRange backRight middleRefusal middle gateRefusal flipRefusal outputRefusal gateShape usedBelow
     sharedJudgement readers liveReads liveGates imageNet recordChance recordUnits imageWords middleWords openLive openWords withSum flipSum
     reliabilityFor averageOf setWords workAll workReliability reliabilityNow workGate gateFigure gateWordFrom gateWord gateFailure gateStep startValues
     difference answer outputStep exactSum rightValues flipSeen sensitive maskReads maskSeen seenCounts
 sheets-hold ws =
     record {
       conversions-hold = refl;
+      reads-hold = refl;
       judgements-hold = refl;
       live-hold = refl;
       reliabilities-hold = refl;

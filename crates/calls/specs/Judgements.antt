@@ -1,5 +1,5 @@
 -- A call as data, and the refusal that it gets, in document 01's order: at opening 1 to 8, then 9, then 13; elsewhere 13 and 14 of the area, then 10, 11,
--- 12; and, of document 02, 15, 16, 17 of card 1 and 21 of card 7.
+-- 12; and, of document 02, 15, 16, 17 of card 1, 21 of card 7, and 22 of card 8: after 7 for the same gate, after 11 in a call.
 use Prim.Native.Nat.{ℕ, _-_, _^_, _≤_, _<_}
 use mathlib.Core.Bool.{false, not, _&&_}
 use mathlib.Core.List.{List}
@@ -10,13 +10,12 @@ use Rattle.lists.specs.Lists.{allZero}
 use Rattle.refusal.specs.declared.Judgement.{Judgement}
 use Rattle.refusal.specs.declared.Judgement.the-variants.{Fine}
 use Rattle.refusal.specs.Judgement.{refuseUnless, otherwise, lowest, wordJudgement}
-use Rattle.chance.specs.Flip.{flipAccepted}
 use Rattle.netlist.specs.declared.Method.{Method}
 use Rattle.area.specs.Layout.{largestWeight, mostListed, inputs, gates, outputs, needed}
 use Rattle.area.specs.Rules.{roomJudgement, areaJudgement}
 use Rattle.live.specs.Shared.{sharedJudgement}
 use Rattle.image.specs.Image.{imageLength, imageGates, imageOutputs}
-use Rattle.image.specs.Refusals.{imageRefusal}
+use Rattle.image.specs.Refusals.{flipRefusal, imageRefusal}
 use Rattle.image.specs.Netlist.{imageNet}
 
 -- the calls that are lent an area, with their other arguments
@@ -36,9 +35,9 @@ pub data Call : Type 0 where
 abbrev pub named : ℕ → ℕ → Judgement
 named x count = refuseUnless (ltb x count) 10 x
 
--- 11: the flip that a call gives would get 7 in an image
+-- 11: the flip that a call gives would get 7 in an image; then 22
 abbrev pub flipJudgement : ℕ → ℕ → List ℕ → Judgement
-flipJudgement g kind field = refuseUnless (flipAccepted kind field) 11 g
+flipJudgement g kind field = flipRefusal 11 g kind field
 
 -- 12: not one weight for each pattern, else the lowest that is too large, else none but zeros
 abbrev pub weightJudgement : List ℕ → ℕ → Judgement

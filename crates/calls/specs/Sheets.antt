@@ -1,6 +1,6 @@
 -- Sheets with known results that are to be proved, as one table: document 01's conversions of chances and openings of images with what they come to; for
--- document 02, card 1, in how many listed patterns each gate's flip is seen; for card 3 an exact half in each place that rounds, both ways; and for card 5
--- raw flip sums.
+-- document 02, card 1, in how many listed patterns each gate's flip is seen; for card 3 an exact half in each place that rounds, both ways; for card 5 raw
+-- flip sums; and for card 8 the chances on either side of 0.5.
 -- `SheetsHold` says that the definitions give the table; proofs/Sheets.antt proves it.
 use Prim.Native.Nat.{ℕ, _+_, _-_, _*_, _/_, _%_, _^_}
 use mathlib.Core.List.{List, [], _∷_, _++_, map}
@@ -10,9 +10,10 @@ use Rattle.lists.specs.Lists.{joined}
 use Rattle.refusal.specs.declared.Judgement.{Judgement}
 use Rattle.refusal.specs.declared.Judgement.the-variants.{Fine, Refused}
 use Rattle.refusal.specs.Judgement.{unlessRefused}
-use Rattle.chance.specs.declared.FlipUnits.the-variants.{Units}
+use Rattle.chance.specs.declared.FlipUnits.{FlipUnits}
+use Rattle.chance.specs.declared.FlipUnits.the-variants.{Units, AboveHalf}
 use Rattle.chance.specs.Number.{chanceScale}
-use Rattle.chance.specs.Flip.{readUnits}
+use Rattle.chance.specs.Flip.{flipUnits, readUnits}
 use Rattle.netlist.specs.declared.Method.{Method}
 use Rattle.netlist.specs.Exact.{exactSum}
 use Rattle.netlist.specs.Seen.{seenCounts}
@@ -34,6 +35,10 @@ twentieth = 0x9a ∷ 0x99 ∷ 0x99 ∷ 0x99 ∷ 0x99 ∷ 0x99 ∷ 0xa9 ∷ 0x3f 
 abbrev pub half : List ℕ
 half = 0 ∷ 0 ∷ 0 ∷ 0 ∷ 0 ∷ 0 ∷ 0xe0 ∷ 0x3f ∷ []
 
+-- the f64 after 0.5
+abbrev pub pastHalf : List ℕ
+pastHalf = 1 ∷ 0 ∷ 0 ∷ 0 ∷ 0 ∷ 0 ∷ 0xe0 ∷ 0x3f ∷ []
+
 abbrev pub one : List ℕ
 one = 0 ∷ 0 ∷ 0 ∷ 0 ∷ 0 ∷ 0 ∷ 0xf0 ∷ 0x3f ∷ []
 
@@ -44,29 +49,45 @@ sixteenths s k = 0 ∷ 0 ∷ 0 ∷ 0 ∷ 0 ∷ 0 ∷ ((1023 - k) % 16 * 16 + s) 
 abbrev pub power : ℕ → List ℕ
 power k = sixteenths 0 k
 
--- ---- conversions: a kind, a field, and its units
+-- ---- conversions: a kind, a field, its units, and whether the chance is let in, or refused as above 0.5
 
 pub record Conversion : Type 0 where
   pub kind : ℕ
   pub field : List ℕ
   pub units : ℕ
+  pub read : FlipUnits
+
+abbrev pub letIn : ℕ → List ℕ → ℕ → Conversion
+letIn kind field units = record { kind = kind; field = field; units = units; read = Units units }
+
+abbrev pub tooHigh : ℕ → List ℕ → ℕ → Conversion
+tooHigh kind field units = record { kind = kind; field = field; units = units; read = AboveHalf }
 
 abbrev pub conversions : List Conversion
 conversions =
-    record { kind = 1; field = twentieth; units = 53_687_091 }
-    ∷ record { kind = 1; field = half; units = 536_870_912 }
-    ∷ record { kind = 1; field = one; units = 1_073_741_824 }
+    letIn 1 twentieth 53_687_091
+    ∷ letIn 1 half 536_870_912
+    ∷ tooHigh 1 one 1_073_741_824
     -- 2^-32; then the exact halves 2^-31, 3 × 2^-31 and 5 × 2^-31
-    ∷ record { kind = 1; field = power 32; units = 0 }
-    ∷ record { kind = 1; field = power 31; units = 0 }
-    ∷ record { kind = 1; field = sixteenths 8 30; units = 2 }
-    ∷ record { kind = 1; field = sixteenths 4 29; units = 2 }
+    ∷ letIn 1 (power 32) 0
+    ∷ letIn 1 (power 31) 0
+    ∷ letIn 1 (sixteenths 8 30) 2
+    ∷ letIn 1 (sixteenths 4 29) 2
     -- the f64 before 2^-31 and the one after it, which are no halves
-    ∷ record { kind = 1; field = 0xff ∷ 0xff ∷ 0xff ∷ 0xff ∷ 0xff ∷ 0xff ∷ 0xff ∷ 0x3d ∷ []; units = 0 }
-    ∷ record { kind = 1; field = 1 ∷ 0 ∷ 0 ∷ 0 ∷ 0 ∷ 0 ∷ 0 ∷ 0x3e ∷ []; units = 1 }
+    ∷ letIn 1 (0xff ∷ 0xff ∷ 0xff ∷ 0xff ∷ 0xff ∷ 0xff ∷ 0xff ∷ 0x3d ∷ []) 0
+    ∷ letIn 1 (1 ∷ 0 ∷ 0 ∷ 0 ∷ 0 ∷ 0 ∷ 0 ∷ 0x3e ∷ []) 1
     -- strikes of 2^-16 and of 3 × 2^-16 with a window of 2^-15
-    ∷ record { kind = 2; field = 0 ∷ 0 ∷ 0x80 ∷ 0x37 ∷ 0 ∷ 0 ∷ 0 ∷ 0x38 ∷ []; units = 0 }
-    ∷ record { kind = 2; field = 0 ∷ 0 ∷ 0x40 ∷ 0x38 ∷ 0 ∷ 0 ∷ 0 ∷ 0x38 ∷ []; units = 2 }
+    ∷ letIn 2 (0 ∷ 0 ∷ 0x80 ∷ 0x37 ∷ 0 ∷ 0 ∷ 0 ∷ 0x38 ∷ []) 0
+    ∷ letIn 2 (0 ∷ 0 ∷ 0x40 ∷ 0x38 ∷ 0 ∷ 0 ∷ 0 ∷ 0x38 ∷ []) 2
+    -- the f64 before 0.5 and the one after it, both nearest to 536,870,912 units; then the first chance that is more units
+    ∷ letIn 1 (0xff ∷ 0xff ∷ 0xff ∷ 0xff ∷ 0xff ∷ 0xff ∷ 0xdf ∷ 0x3f ∷ []) 536_870_912
+    ∷ tooHigh 1 pastHalf 536_870_912
+    ∷ tooHigh 1 (1 ∷ 0 ∷ 0x40 ∷ 0 ∷ 0 ∷ 0 ∷ 0xe0 ∷ 0x3f ∷ []) 536_870_913
+    -- strikes of 0.5 with a window of 1; of 10,610,063 × 2^-24 with 13,264,529 × 2^-24, which is 0.5 - 2^-48; of 8,392,705 × 2^-24 with 16,769,026 × 2^-24,
+    -- which is 0.5 + 2^-47
+    ∷ letIn 2 (0 ∷ 0 ∷ 0 ∷ 0x3f ∷ 0 ∷ 0 ∷ 0x80 ∷ 0x3f ∷ []) 536_870_912
+    ∷ letIn 2 (0x8f ∷ 0xe5 ∷ 0x21 ∷ 0x3f ∷ 0x91 ∷ 0x66 ∷ 0x4a ∷ 0x3f ∷ []) 536_870_912
+    ∷ tooHigh 2 (1 ∷ 0x10 ∷ 0 ∷ 0x3f ∷ 2 ∷ 0xe0 ∷ 0x7f ∷ 0x3f ∷ []) 536_870_912
     ∷ []
 
 -- ---- images: gate records, output words, the trailer; every number below 256, so that its second byte is 0
@@ -140,9 +161,10 @@ seenAtOne field = buffer 0 field ++ (andGate 0 1 0 never ++ (twoBytes (2 ∷ [])
 abbrev pub mixedImage : List ℕ
 mixedImage = buffer 0 twentieth ++ (buffer 0 half ++ (gateRecord 1 2 1 0 0 never ++ (twoBytes (3 ∷ []) ++ trailer 1 3 1)))
 
--- five buffers behind each other, gate 1 and the last of them with these flips, the others with chance 1
+-- nine buffers behind each other, gate 1 and the last of them with these flips, the others with chance 0.5
 abbrev pub longImage : List ℕ → List ℕ → List ℕ
-longImage second last = buffer 0 one ++ (buffer 1 second ++ (buffer 2 one ++ (buffer 3 one ++ (buffer 4 last ++ (twoBytes (5 ∷ []) ++ trailer 1 5 1)))))
+longImage second last =
+    buffer 0 half ++ (buffer 1 second ++ (joined (λ (j : ℕ). buffer (2 + j) half) 6 ++ (buffer 8 last ++ (twoBytes (9 ∷ []) ++ trailer 1 9 1))))
 
 -- ---- openings: how an image is judged and its live gates; and, unless it is refused, the reliability and the exact sum at each pattern in rising order,
 -- the average with all weights 1, and every gate's failure at pattern 0. The exact sums are fractions of `parts`.
@@ -184,11 +206,14 @@ openings =
     (53_687_091 ∷ 53_687_091 ∷ []) (replicate 8 4_686_047_914_827_681_907_366_887_202_708_521) (2 ^ 112)
     ∷ accepted andInverterImage 2 (replicate 4 971_736_351) 971_736_351
     (53_687_091 ∷ 102_005_473 ∷ []) (replicate 4 2_349_514_328_487_009_488_939_682_662_145_065) (2 ^ 111)
-    ∷ accepted sureBuffersImage 2 (replicate 2 1_073_741_824) 1_073_741_824 (1_073_741_824 ∷ 0 ∷ []) (replicate 2 1) 1
+    ∷ refused sureBuffersImage 2 22 0
     ∷ accepted noGatesImage 0 (replicate 2 1_073_741_824) 1_073_741_824 [] (replicate 2 1) 1
     ∷ refused gateTwiceImage 2 9 0
     ∷ accepted inputTwiceImage 1 (replicate 2 1_073_741_824) 1_073_741_824 (0 ∷ []) (replicate 2 1) 1
     ∷ accepted deadReaderImage 2 (replicate 2 536_870_912) 536_870_912 (536_870_912 ∷ 536_870_912 ∷ 536_870_912 ∷ []) (replicate 2 1) 2
+    -- 0.5 in both of two buffers in a row; and in the second the f64 after it
+    ∷ accepted (inARow half half) 2 (replicate 2 536_870_912) 536_870_912 (536_870_912 ∷ 536_870_912 ∷ []) (replicate 2 1) 2
+    ∷ refused (inARow half pastHalf) 2 22 1
     -- a gate step at a half: 268,435,456.5 goes down, 32,767.5 goes up
     ∷ accepted (inARow (power 2) (power 30)) 2 (replicate 2 805_306_368) 805_306_368
     (268_435_456 ∷ 268_435_456 ∷ []) (replicate 2 1_610_612_735) (2 ^ 31)
@@ -226,7 +251,7 @@ countings =
     ∷ record { image = deadReaderImage; patterns = 0 ∷ 1 ∷ []; counts = 2 ∷ 2 ∷ 0 ∷ [] }
     ∷ []
 
--- ---- raw flip sums: an image, and words 5 and 6 of the area that it is opened in, and those after gate 1's flip is set to chance 1
+-- ---- raw flip sums: an image, and words 5 and 6 of the area that it is opened in, and those after gate 1's flip is set to chance 0.25
 
 pub record Summing : Type 0 where
   pub image : List ℕ
@@ -235,13 +260,13 @@ pub record Summing : Type 0 where
 
 abbrev pub summings : List Summing
 summings =
-    record { image = printedImage; opened = 1_073_741_824 ∷ 0 ∷ []; reset = 1_610_612_736 ∷ 0 ∷ [] }
+    record { image = printedImage; opened = 1_073_741_824 ∷ 0 ∷ []; reset = 805_306_368 ∷ 0 ∷ [] }
     -- gate 0 is live, gate 1 dead, and gate 2 live and without a flip
     ∷ record { image = mixedImage; opened = 53_687_091 ∷ 0 ∷ []; reset = 53_687_091 ∷ 0 ∷ [] }
-    -- five live gates pass 2^32, four reach it, and three stay below it until a fourth is set
-    ∷ record { image = longImage one one; opened = 1_073_741_824 ∷ 1 ∷ []; reset = 1_073_741_824 ∷ 1 ∷ [] }
-    ∷ record { image = longImage one never; opened = 0 ∷ 1 ∷ []; reset = 0 ∷ 1 ∷ [] }
-    ∷ record { image = longImage never never; opened = 3_221_225_472 ∷ 0 ∷ []; reset = 0 ∷ 1 ∷ [] }
+    -- nine live gates pass 2^32, eight reach it, and a set flip takes a sum below it or up to it
+    ∷ record { image = longImage half half; opened = 536_870_912 ∷ 1 ∷ []; reset = 268_435_456 ∷ 1 ∷ [] }
+    ∷ record { image = longImage half never; opened = 0 ∷ 1 ∷ []; reset = 4_026_531_840 ∷ 0 ∷ [] }
+    ∷ record { image = longImage never (power 2); opened = 4_026_531_840 ∷ 0 ∷ []; reset = 0 ∷ 1 ∷ [] }
     ∷ []
 
 -- ---- what the definitions give for each column
@@ -265,7 +290,8 @@ scaled bs fractions = map (λ (f : ℕ). f * chanceScale ^ imageGates bs) fracti
 
 -- the table, opened in an area of 8,264 words that held any words ws
 pub record SheetsHold (ws : List ℕ) : Type 0 where
-  pub conversions-hold : map (λ (c : Conversion). readUnits (c .kind) (c .field)) conversions ≡ map (λ (c : Conversion). Units (c .units)) conversions
+  pub conversions-hold : map (λ (c : Conversion). flipUnits (c .kind) (c .field)) conversions ≡ map (λ (c : Conversion). c .units) conversions
+  pub reads-hold : map (λ (c : Conversion). readUnits (c .kind) (c .field)) conversions ≡ map (λ (c : Conversion). c .read) conversions
   pub judgements-hold : map (λ (s : Opening). openJudgement (s .image) mostWords) openings ≡ map (λ (s : Opening). s .judged) openings
   pub live-hold : map (λ (s : Opening). openLive (s .image)) openings ≡ map (λ (s : Opening). s .live) openings
   pub reliabilities-hold :
@@ -281,7 +307,8 @@ pub record SheetsHold (ws : List ℕ) : Type 0 where
       map (λ (s : Opening). unlessRefused (s .judged) (exactAt (s .image) (s .parts)) []) openings
       ≡ map (λ (s : Opening). scaled (s .image) (s .exact)) openings
   pub sums-hold : map (λ (s : Summing). sumWords (openWords (s .image) ws)) summings ≡ map (λ (s : Summing). s .opened) summings
-  pub resets-hold : map (λ (s : Summing). sumWords (work (openWords (s .image) ws) (set-flip 1 1 one))) summings ≡ map (λ (s : Summing). s .reset) summings
+  pub resets-hold : map (λ (s : Summing). sumWords (work (openWords (s .image) ws) (set-flip 1 1 (power 2)))) summings
+      ≡ map (λ (s : Summing). s .reset) summings
   pub counts-hold : (method : Method)
       → map (λ (s : Counting). seenCounts method (netOf (openWords (s .image) ws) [] []) (s .patterns)) countings
       ≡ map (λ (s : Counting). s .counts) countings

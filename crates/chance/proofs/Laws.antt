@@ -1,13 +1,15 @@
 -- The laws of flip fields that later crates cite. Assumes nothing.
 use Prim.Native.Nat.{ℕ, zero, suc, _+_, _*_, _^_, _≤_, _<_}
-use mathlib.Core.Path.{_≡_, refl, sym, ap, _∙_}
+use mathlib.Core.Path.{_≡_, refl, sym, ap, subst, _∙_}
 use mathlib.Core.Bool.{Bool, true, false, cond, _&&_, false≢true}
 use mathlib.Core.List.{List}
-use native.Mathlib.Nat.{le-trans, le-of-eq, add-le-add, eq-of-mul-eq-mul-right, mul-assoc, mul-left-comm, mul-pos, mul-comm, mul-le-mul, mul-le-mul-right}
-use native.Mathlib.Nat.{div-le-of-le-mul}
+use native.Mathlib.Nat.{le-trans, add-le-add, eq-of-mul-eq-mul-right, mul-assoc, mul-left-comm, mul-pos, mul-comm, mul-le-mul, mul-le-mul-right}
+use native.Mathlib.Nat.{mul-right-comm, div-le-of-le-mul}
 use native.Mathlib.Omega.{arith}
+use borrow.Author.Tests.{leb-true, le-leb}
 use lib.Dec.{T, lit≤}
-use lib.Ieee.{Float, nan, inf, fin, binary32, binary64, fits, ofBits}
+use lib.Ieee.{Float, nan, inf, fin, binary32, binary64, up, down, fits, ofBits}
+use lib.Ieee.Fits.{down-pos}
 use lib.Ieee.Digits.{Equals}
 use lib.Ieee.Bits.{ofBits-fits}
 use lib.Ieee.Positive.{num, den, den-pos}
@@ -17,14 +19,15 @@ use Rattle.rounding.proofs.Laws.{at-most}
 use Rattle.chance.specs.declared.Flip.{Flip}
 use Rattle.chance.specs.declared.Flip.the-variants.{Never, Plain, Strike as Struck}
 use Rattle.chance.specs.declared.FlipRead.the-variants.{Accepted, Refused}
-use Rattle.chance.specs.declared.FlipUnits.the-variants.{Units, Refused as NoUnits}
-use Rattle.chance.specs.Number.{chanceScale, wholeChance, fromZeroToOne, chanceBits}
+use Rattle.chance.specs.declared.FlipUnits.the-variants.{Units, AboveHalf, Refused as NoUnits}
+use Rattle.chance.specs.Number.{chanceScale, wholeChance, unitsInHalf, atMostHalf, fromZeroToOne, chanceBits}
 use Rattle.chance.specs.Flip.{firstHalf, secondHalf, wholeField, inRange, flipOf, flipAccepted, chanceOf, flipChance}
-use Rattle.chance.specs.Flip.{flipUnits, readFlip, readUnits}
-use Rattle.chance.specs.Statements.{PlainExact, StrikeExact, ChanceAtMost}
+use Rattle.chance.specs.Flip.{flipUnits, readFlip, unitsIf, readUnits}
+use Rattle.chance.specs.Statements.{PlainExact, StrikeExact, ChanceAtMost, PlainHalf, StrikeHalf, LowUnits}
 use Rattle.chance.proofs.Range.{range-of-bits}
 use Rattle.chance.proofs.Exact.{den-power, scale-pos, whole-exact}
 use Rattle.chance.proofs.Product.{range-says}
+use Rattle.chance.proofs.Half.{half-of-fraction}
 
 -- ---- reading
 
@@ -59,25 +62,46 @@ unfolding readFlip
 read-refused kind field e =
     cond-second (flipAccepted kind field) (Accepted (flipOf kind field)) Refused Refused (λ p. let z : _≡_ {A = ℕ} 0 1 = cc in omega arith) e
 
+-- a flip that was read is in range
+pub read-in-range : (kind : ℕ) (field : List ℕ) (flip : Flip) → readFlip kind field ≡ Accepted flip → inRange flip ≡ true
+read-in-range kind field flip e =
+    let said = read-accepted kind field flip e in
+    subst (λ (f : Flip). inRange f ≡ true) (said .1) (accepted-in-range kind field (said .0))
+
 -- the chance of the flip that was read is that of the field
 pub read-chance : (kind : ℕ) (field : List ℕ) (flip : Flip) → readFlip kind field ≡ Accepted flip → chanceOf flip ≡ flipChance kind field
 unfolding flipChance
 read-chance kind field flip e = ap chanceOf (sym (read-accepted kind field flip e .1))
 
--- and in units
+-- and in units: what each answer says of the field
 pub units-accepted : (kind : ℕ) (field : List ℕ) (units : ℕ) → readUnits kind field ≡ Units units
-    → (flipAccepted kind field ≡ true) × (flipUnits kind field ≡ units)
+    → (flipAccepted kind field ≡ true) × (atMostHalf (flipChance kind field) ≡ true) × (flipUnits kind field ≡ units)
 unfolding readUnits
-units-accepted kind field units e =
-    let n = flipUnits kind field in
-    let r = cond-first (flipAccepted kind field) (Units n) NoUnits (Units units) (λ p. let z : _≡_ {A = ℕ} 0 1 = cc in omega arith) e in
-    let f : Units n ≡ Units units = r .1 in
-    (r .0, cc)
+units-accepted kind field units e = go (flipAccepted kind field) (atMostHalf (flipChance kind field)) (flipUnits kind field) e
+  where
+    go : (a low : Bool) (n : ℕ) → unitsIf a low n ≡ Units units → (a ≡ true) × (low ≡ true) × (n ≡ units)
+    go true true n e = (refl, refl, cc)
+    go true false n e = let z : _≡_ {A = ℕ} 0 1 = cc in absurd (omega arith)
+    go false low n e = let z : _≡_ {A = ℕ} 0 1 = cc in absurd (omega arith)
+
+pub units-above : (kind : ℕ) (field : List ℕ) → readUnits kind field ≡ AboveHalf
+    → (flipAccepted kind field ≡ true) × (atMostHalf (flipChance kind field) ≡ false)
+unfolding readUnits
+units-above kind field e = go (flipAccepted kind field) (atMostHalf (flipChance kind field)) (flipUnits kind field) e
+  where
+    go : (a low : Bool) (n : ℕ) → unitsIf a low n ≡ AboveHalf → (a ≡ true) × (low ≡ false)
+    go true true n e = let z : _≡_ {A = ℕ} 0 1 = cc in absurd (omega arith)
+    go true false n e = (refl, refl)
+    go false low n e = let z : _≡_ {A = ℕ} 0 1 = cc in absurd (omega arith)
 
 pub units-refused : (kind : ℕ) (field : List ℕ) → readUnits kind field ≡ NoUnits → flipAccepted kind field ≡ false
 unfolding readUnits
-units-refused kind field e =
-    cond-second (flipAccepted kind field) (Units (flipUnits kind field)) NoUnits NoUnits (λ p. let z : _≡_ {A = ℕ} 0 1 = cc in omega arith) e
+units-refused kind field e = go (flipAccepted kind field) (atMostHalf (flipChance kind field)) (flipUnits kind field) e
+  where
+    go : (a low : Bool) (n : ℕ) → unitsIf a low n ≡ NoUnits → a ≡ false
+    go true true n e = let z : _≡_ {A = ℕ} 0 1 = cc in absurd (omega arith)
+    go true false n e = let z : _≡_ {A = ℕ} 0 1 = cc in absurd (omega arith)
+    go false low n e = refl
 
 -- ---- acceptance on the bits
 
@@ -125,19 +149,18 @@ pub flip-chance-at-most : ChanceAtMost
 unfolding flipChance
 flip-chance-at-most kind field h = chance-at-most (flipOf kind field) (accepted-in-range kind field h)
 
--- so it is at most U units
-pub to-units-at-most : (chance : ℕ) → chance ≤ chanceScale → toUnits unitsInOne chanceScale chance ≤ unitsInOne
-unfolding toUnits
-to-units-at-most chance h =
-    at-most (chance * unitsInOne) chanceScale scale-pos unitsInOne
-    (le-trans (mul-le-mul-right unitsInOne h) (le-of-eq (mul-comm chanceScale unitsInOne)))
+-- chance 0 is at most 0.5
+pub no-chance-low : atMostHalf 0 ≡ true
+unfolding atMostHalf
+no-chance-low = le-leb (2 * 0) chanceScale (omega arith)
 
-pub units-at-most : (flip : Flip) → inRange flip ≡ true → toUnits unitsInOne chanceScale (chanceOf flip) ≤ unitsInOne
-units-at-most flip h = to-units-at-most (chanceOf flip) (chance-at-most flip h)
-
-pub flip-units-at-most : (kind : ℕ) (field : List ℕ) → flipAccepted kind field ≡ true → flipUnits kind field ≤ unitsInOne
-unfolding flipUnits
-flip-units-at-most kind field h = to-units-at-most (flipChance kind field) (flip-chance-at-most kind field h)
+-- a chance that is at most 0.5 is at most U / 2 units
+pub low-units : LowUnits
+unfolding atMostHalf flipUnits toUnits
+low-units kind field h =
+    let chance = flipChance kind field in
+    let low : 2 * chance ≤ chanceScale = leb-true (2 * chance) chanceScale h in
+    at-most (chance * unitsInOne) chanceScale scale-pos unitsInHalf (omega arith)
 
 -- ---- the chance is the IEEE value
 
@@ -186,6 +209,26 @@ strike-exact field a c b d e f =
         let v : n * c * (m * d) * s ≡ n * m * s * (c * d) = simp (mul-assoc, mul-comm, mul-left-comm) in
         let w : k * (p * q) * (c * d) ≡ k * (c * d) * (p * q) = simp (mul-assoc, mul-comm, mul-left-comm) in
         u ∙ ap (λ (z : ℕ). z * (b * q) * s) (sym e) ∙ ap (λ (z : ℕ). n * c * z * s) (sym f) ∙ v ∙ ap (λ (z : ℕ). z * (c * d)) g ∙ w)
+
+-- ---- the chance held to 0.5 is the IEEE value
+
+pub plain-half : PlainHalf
+plain-half field a c accepted C e =
+    half-of-fraction a c (flipChance 1 field) C (same (ofBits binary64 (wholeField field)) e (plain-exact field accepted))
+  where
+    both : (p q w : ℕ) → 0 < q → p * c ≡ a * q → p * chanceScale ≡ w * q → a * chanceScale ≡ w * c
+    both p q w Q v u =
+        eq-of-mul-eq-mul-right q Q (a * chanceScale) (w * c)
+        (mul-right-comm a chanceScale q ∙ ap (λ (z : ℕ). z * chanceScale) (sym v) ∙ mul-right-comm p c chanceScale ∙ ap (λ (z : ℕ). z * c) u
+        ∙ mul-right-comm w q c)
+
+    same : (x : Float) → Equals x a c → Equals x (flipChance 1 field) chanceScale → a * chanceScale ≡ flipChance 1 field * c
+    same nan v u = absurd v
+    same (inf t) v u = absurd v
+    same (fin t m g) v u = both (m * up g) (down g) (flipChance 1 field) (down-pos g) v u
+
+pub strike-half : StrikeHalf
+strike-half field a c b d C D e f = half-of-fraction (a * b) (c * d) (flipChance 2 field) (mul-pos C D) (strike-exact field a c b d e f)
 
 -- kind 0 has no chance of flipping
 pub never-chance : (kind : ℕ) (field : List ℕ) → kind ≡ 0 → flipChance kind field ≡ 0

@@ -94,7 +94,7 @@ module _ (h e x t : ℕ) (digits : t < h) where
           let less : e - 1 < x = omega arith in
           lt-of-lt-of-le (mul-lt-mul-of-pos-left (pow-lt less) (lt-of-le-of-lt zero-le digits)) (mul-le-mul-right (2 ^ x) (le-add-right h t))
 
-  field-test : 0 < e → leb ((h + t) * 2 ^ x) (h * 2 ^ (e - 1)) ≡ leb (suc x * h + t) (e * h)
+  pub field-test : 0 < e → leb ((h + t) * 2 ^ x) (h * 2 ^ (e - 1)) ≡ leb (suc x * h + t) (e * h)
   field-test some =
       same-test (leb ((h + t) * 2 ^ x) (h * 2 ^ (e - 1))) (leb (suc x * h + t) (e * h))
       (λ t'. go (leb (suc x * h + t) (e * h)) refl t')
@@ -175,7 +175,7 @@ fields-range f false (suc x) t d = go (eqb (suc x) (ones f)) (eqb-true (suc x) (
 -- ---- by a whole pattern
 
 -- the exponent's field and the digits make up the pattern without its sign
-two-fields : (f : Format) (b : ℕ) → b % top f / hid f * hid f + b % hid f ≡ b % top f
+pub two-fields : (f : Format) (b : ℕ) → b % top f / hid f * hid f + b % hid f ≡ b % top f
 two-fields f b =
     ap (λ (y : ℕ). b % top f / hid f * hid f + y) (sym (mod-mod-of-dvd (hid f) b (dvd-mul-right (hid f) (suc (ones f)))))
     ∙ div-add-mod' (b % top f) (hid f)

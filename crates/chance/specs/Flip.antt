@@ -12,8 +12,8 @@ use Rattle.chance.specs.declared.Flip.the-variants.{Never, Plain, Strike
 use Rattle.chance.specs.declared.FlipRead.{FlipRead}
 use Rattle.chance.specs.declared.FlipRead.the-variants.{Accepted, Refused}
 use Rattle.chance.specs.declared.FlipUnits.{FlipUnits}
-use Rattle.chance.specs.declared.FlipUnits.the-variants.{Units, Refused as NoUnits}
-use Rattle.chance.specs.Number.{chanceScale, wholeChance, fromZeroToOne}
+use Rattle.chance.specs.declared.FlipUnits.the-variants.{Units, AboveHalf, Refused as NoUnits}
+use Rattle.chance.specs.Number.{chanceScale, wholeChance, atMostHalf, fromZeroToOne}
 
 -- little-endian numbers: four bytes, the field's two halves, and the whole field
 abbrev pub fourBytes : ℕ → ℕ → ℕ → ℕ → ℕ
@@ -75,9 +75,9 @@ readIf accepted flip = cond accepted (Accepted flip) Refused
 unfoldable pub readFlip : ℕ → List ℕ → FlipRead
 readFlip kind field = readIf (flipAccepted kind field) (flipOf kind field)
 
--- the answer of reading a field in units, or refused
-abbrev pub unitsIf : Bool → ℕ → FlipUnits
-unitsIf accepted units = cond accepted (Units units) NoUnits
+-- the answer of reading a field in units: refused, or above 0.5 before conversion, or its units
+abbrev pub unitsIf : Bool → Bool → ℕ → FlipUnits
+unitsIf accepted low units = cond accepted (cond low (Units units) AboveHalf) NoUnits
 
 unfoldable pub readUnits : ℕ → List ℕ → FlipUnits
-readUnits kind field = unitsIf (flipAccepted kind field) (flipUnits kind field)
+readUnits kind field = unitsIf (flipAccepted kind field) (atMostHalf (flipChance kind field)) (flipUnits kind field)

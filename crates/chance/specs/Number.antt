@@ -12,6 +12,14 @@ chanceScale = 2 ^ 1074
 unfoldable pub wholeChance : ℕ → ℕ → ℕ
 wholeChance n d = n * chanceScale / d
 
+-- 0.5 in units
+abbrev pub unitsInHalf : ℕ
+unitsInHalf = 536_870_912
+
+-- whether a chance in 2^-1074 is at most 0.5
+unfoldable pub atMostHalf : ℕ → Bool
+atMostHalf chance = leb (2 * chance) chanceScale
+
 -- whether a float can be a chance: a number m × 2^e that is at most 1, or minus zero; no NaN, no infinity
 unfoldable pub fromZeroToOne : Float → Bool
 fromZeroToOne nan = false

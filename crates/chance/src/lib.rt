@@ -1,12 +1,12 @@
 // A gate's flip field: reading it from its kind and eight bytes, and converting its chance to units.
 ghost use mathlib.Core.Path.{_≡_};
-ghost use mathlib.Core.Bool.{true, false};
+ghost use mathlib.Core.Bool.{true, false, not};
 ghost use Prim.Native.Nat.{_+_, _*_, _<_};
 ghost use lib.Dec.{eqb};
 ghost use lib.Ieee.Exact.{HasValue};
 ghost use lib.Ieee.Positive.{num, den};
 ghost use Rattle.rounding.specs.Rounding.{unitsInOne, toUnits};
-ghost use Rattle.chance.specs.Number.{chanceScale, wholeChance, fromZeroToOne, chanceBits};
+ghost use Rattle.chance.specs.Number.{chanceScale, wholeChance, atMostHalf, fromZeroToOne, chanceBits};
 ghost use Rattle.chance.specs.Flip.{fourBytes, firstHalf, secondHalf, wholeField, plainOf, strikeOf, inRange, chanceOf, readIf, readFlip, readUnits};
 
 // A strike flips its gate only if it falls into the latching window: its chance is the product of both.
@@ -29,11 +29,14 @@ pub enum FlipRead {
 
 pub enum FlipUnits {
     Units(u32),
+    AboveHalf,
     Refused,
 }
 
-// The bit patterns of 1 and of minus zero.
+// The bit patterns of 1, of 0.5 and of minus zero.
 const ONE_F64: u64 = 0x3ff0_0000_0000_0000;
+
+const HALF_F64: u64 = 0x3fe0_0000_0000_0000;
 
 const MINUS_ZERO_F64: u64 = 0x8000_0000_0000_0000;
 
@@ -150,13 +153,25 @@ fn nearest_units(chance: f64) -> u32
 }
 
 // The product of two f32 is exact as an f64.
-fn strike_units(strike: Strike) -> u32
+fn strike_chance(strike: Strike) -> f64
     requires { ⌜ inRange (Flip.Strike strike) ≡ true ⌝ }
-    ensures { λ r. ⌜ r ≡ toUnits unitsInOne chanceScale (chanceOf (Flip.Strike strike)) ⌝ }
+    ensures { λ r. ⌜ (fromZeroToOne r ≡ true) × (wholeChance (num r) (den r) ≡ chanceOf (Flip.Strike strike)) ⌝ }
 {
     let chance = strike.chance as f64;
     let window = strike.window as f64;
-    nearest_units(chance * window)
+    chance * window
+}
+
+// A flip's chance before conversion, by cases.
+fn exact_chance(flip: Flip) -> f64
+    requires { ⌜ inRange flip ≡ true ⌝ }
+    ensures { λ r. ⌜ (fromZeroToOne r ≡ true) × (wholeChance (num r) (den r) ≡ chanceOf flip) ⌝ }
+{
+    match flip {
+        Flip::Never => 0.0,
+        Flip::Plain(chance) => chance,
+        Flip::Strike(strike) => strike_chance(strike),
+    }
 }
 
 // A flip's chance in units.
@@ -164,19 +179,32 @@ pub fn units(flip: Flip) -> u32
     requires { ⌜ inRange flip ≡ true ⌝ }
     ensures { λ r. ⌜ r ≡ toUnits unitsInOne chanceScale (chanceOf flip) ⌝ }
 {
-    match flip {
-        Flip::Never => 0,
-        Flip::Plain(chance) => nearest_units(chance),
-        Flip::Strike(strike) => strike_units(strike),
-    }
+    nearest_units(exact_chance(flip))
 }
 
-// Reads a flip field and converts it: what the image reader and the call that sets a flip use.
+// The one place where a chance is held to 0.5. It is held by its bit pattern, which rises with the number; of chances only minus zero has a pattern past
+// that of 1. A comparison of floats made opening a twentieth slower.
+fn above_half(chance: f64) -> bool
+    requires { ⌜ fromZeroToOne chance ≡ true ⌝ }
+    ensures { λ r. ⌜ r ≡ not (atMostHalf (wholeChance (num chance) (den chance))) ⌝ }
+{
+    let bits = f64::to_bits(chance);
+    HALF_F64 < bits && bits <= ONE_F64
+}
+
+// Reads a flip field, holds its chance to 0.5 and converts it: what the image reader and the call that sets a flip use.
 pub fn read_units(kind: u8, field: [u8; 8]) -> FlipUnits
     ensures { λ r. ⌜ r ≡ readUnits kind field ⌝ }
 {
     match read_flip(kind, field) {
-        FlipRead::Accepted(flip) => FlipUnits::Units(units(flip)),
+        FlipRead::Accepted(flip) => {
+            let chance = exact_chance(flip);
+            if above_half(chance) {
+                FlipUnits::AboveHalf
+            } else {
+                FlipUnits::Units(nearest_units(chance))
+            }
+        }
         FlipRead::Refused => FlipUnits::Refused,
     }
 }

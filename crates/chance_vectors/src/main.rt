@@ -1,6 +1,7 @@
 // Compares chance::read_units with vectors that tests/chance_vectors.py works out, read from standard input. A vector has 14 bytes: kind,
-// field, whether it is accepted, units.
+// field, 0 if it is refused, 1 if it is accepted, 2 if its chance is above 0.5, and its units.
 ghost use Prim.Native.Nat.{_<_};
+use chance::FlipRead;
 use chance::FlipUnits;
 use libc::STDIN_FILENO;
 use libc::STDOUT_FILENO;
@@ -26,19 +27,28 @@ fn wide(x: u8) -> u64
     x as u64
 }
 
-// Whether a vector says 1 and the units of an accepted field, or 0 and 0 of a refused one.
-fn says(v: [u8; 14], accepted: u8, units: u32) -> bool {
+// Whether a vector says this answer, and these units.
+fn says(v: [u8; 14], answer: u8, units: u32) -> bool {
     let expected = wide(v[10])
         + 256 * wide(v[11])
         + 65_536 * wide(v[12])
         + 16_777_216 * wide(v[13]);
-    v[9] == accepted && expected == units as u64
+    v[9] == answer && expected == units as u64
+}
+
+// The conversion alone, which goes up to 1.
+fn converted(kind: u8, field: [u8; 8]) -> u32 {
+    match chance::read_flip(kind, field) {
+        FlipRead::Accepted(flip) => chance::units(flip),
+        FlipRead::Refused => 0,
+    }
 }
 
 fn agrees(v: [u8; 14]) -> bool {
     let field = [v[1], v[2], v[3], v[4], v[5], v[6], v[7], v[8]];
     match chance::read_units(v[0], field) {
         FlipUnits::Units(units) => says(v, 1, units),
+        FlipUnits::AboveHalf => says(v, 2, converted(v[0], field)),
         FlipUnits::Refused => says(v, 0, 0),
     }
 }

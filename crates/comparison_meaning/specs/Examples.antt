@@ -10,7 +10,7 @@ use Rattle.comparison.specs.declared.Patterns.the-variants.{Counted, Unlike}
 use Rattle.comparison.specs.declared.Image.the-variants.{First as FirstImage, Second as SecondImage}
 use Rattle.comparison.specs.declared.Compared.{Compared}
 use Rattle.comparison.specs.declared.Compared.the-variants.{Done, Refused}
-use Rattle.calls.specs.Sheets.{power, sixteenths, printedImage, noGatesImage, gateTwiceImage, seenAtOne}
+use Rattle.calls.specs.Sheets.{power, sixteenths, pastHalf, printedImage, noGatesImage, gateTwiceImage, seenAtOne}
 use Rattle.comparison.specs.Images.{compared}
 
 -- two images, and the answer
@@ -47,11 +47,12 @@ rows =
     -- 2 units apart under pattern 1 would decide by themselves, and 1 unit would not: the error of a figure is 2 half units
     ∷ record { first = noGatesImage; second = seenAtOne (power 29); answer = Done Undecided wire (buffered 1_073_741_823) (patterns 1 0 1) }
     ∷ record { first = noGatesImage; second = seenAtOne (power 30); answer = Done Undecided wire (buffered 1_073_741_824) (patterns 0 0 2) }
-    -- a module and itself; unlike inputs; a gate with two readers in the second image, and in the first
+    -- a module and itself; unlike inputs; a gate with two readers in the second image, and in the first; a chance above 0.5
     ∷ record { first = printedImage; second = printedImage; answer = Done Undecided printed printed (patterns 0 0 4) }
     ∷ record { first = printedImage; second = noGatesImage; answer = Done Second printed wire Unlike }
     ∷ record { first = printedImage; second = gateTwiceImage; answer = Refused SecondImage 9 0 }
     ∷ record { first = gateTwiceImage; second = gateTwiceImage; answer = Refused FirstImage 9 0 }
+    ∷ record { first = printedImage; second = seenAtOne pastHalf; answer = Refused SecondImage 22 0 }
     ∷ []
 
 abbrev pub ExamplesHold : Type 0

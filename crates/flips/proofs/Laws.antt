@@ -15,7 +15,7 @@ use lib.Ieee.Digits.{Equals}
 use lib.Ieee.Fits.{down-pos}
 use Rattle.rounding.specs.Rounding.{unitsInOne, roundDiv, toUnits}
 use Rattle.rounding.proofs.Laws.{no-units, exact}
-use Rattle.chance.specs.Number.{chanceScale, fromZeroToOne}
+use Rattle.chance.specs.Number.{chanceScale, unitsInHalf, atMostHalf, fromZeroToOne}
 use Rattle.chance.specs.Flip.{wholeField, inRange, flipOf, flipAccepted, chanceOf, flipChance, flipUnits}
 use Rattle.chance.proofs.Range.{range-of-value}
 use Rattle.chance.proofs.Exact.{scale-pos}
@@ -205,6 +205,13 @@ module _ (u : ℕ) (some : 0 < u) (most : u ≤ unitsInOne) where
 
 -- ---- every number of units
 
+-- a chance that is so many units exactly, and these at most U / 2
+low-chance : (chance units : ℕ) → chance * unitsInOne ≡ units * chanceScale → units ≤ unitsInHalf → atMostHalf chance ≡ true
+unfolding atMostHalf
+low-chance chance units e h =
+    let most : units * chanceScale ≤ unitsInHalf * chanceScale = mul-le-mul-right chanceScale h in
+    le-leb (2 * chance) chanceScale (omega arith)
+
 pub units-read-back : UnitsReadBack
 unfolding unitsKind
 units-read-back zero most = none
@@ -215,13 +222,17 @@ units-read-back zero most = none
     chance : flipChance 0 (unitsField 0) ≡ 0
     chance = unfold flipChance in unfold flipOf in unfold chanceOf in refl
 
+    exact-none : flipChance 0 (unitsField 0) * unitsInOne ≡ 0 * chanceScale
+    exact-none = ap (λ (z : ℕ). z * unitsInOne) chance ∙ sym (zero-mul chanceScale)
+
     none : ReadBack 0
     none =
         record {
           value = unfold ofBits in unfold unitsBits in (refl, refl);
           accepted = accepted;
-          exact = ap (λ (z : ℕ). z * unitsInOne) chance ∙ sym (zero-mul chanceScale);
+          exact = exact-none;
           again = unfold flipUnits in ap (toUnits unitsInOne chanceScale) chance ∙ no-units unitsInOne chanceScale scale-pos;
+          low = low-chance (flipChance 0 (unitsField 0)) 0 exact-none;
         }
 units-read-back (suc u) most =
     let some : 0 < suc u = zero-lt-suc u in
@@ -230,4 +241,5 @@ units-read-back (suc u) most =
       accepted = plain-accepted (suc u) some most;
       exact = plain-chance (suc u) some most;
       again = plain-again (suc u) some most;
+      low = low-chance (flipChance 1 (unitsField (suc u))) (suc u) (plain-chance (suc u) some most);
     }

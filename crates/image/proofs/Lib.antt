@@ -1,4 +1,5 @@
 pub mod Passed
+pub mod Flips
 pub mod Middle
 pub mod Numbers
 pub mod Right

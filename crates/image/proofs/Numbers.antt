@@ -1,4 +1,4 @@
--- The refusals of an image give 1 to 8. Assumes nothing.
+-- The refusals of an image give 1 to 8 and 22. Assumes nothing.
 use Prim.Native.Nat.{ℕ, _+_}
 use mathlib.Core.Bool.{Bool}
 use mathlib.Core.List.{List}
@@ -6,11 +6,11 @@ use native.Mathlib.Omega.{arith}
 use lib.Dec.{ltb, eqb}
 use Rattle.refusal.specs.Judgement.{refuseUnless}
 use Rattle.refusal.proofs.Laws.{Only, NotRule, only-unless, only-otherwise, only-lowest}
-use Rattle.chance.specs.Flip.{flipAccepted}
 use Rattle.area.specs.Rules.{gateShape, usedBelow, countsInRange}
 use Rattle.image.specs.Image.{knownFormat, imageInputs, imageGates, imageOutputs, imageFormat, middle}
 use Rattle.image.specs.Image.{recordCount, recordKind, recordTable, recordPins, recordField, outputAt}
 use Rattle.image.specs.Refusals.{lengthRight, backRight, trailerRefusal, gateRefusal, outputRefusal, middleRefusal, imageRefusal}
+use Rattle.image.proofs.Flips.{only-flip}
 
 -- a condition that gives one of these numbers
 given : (c : Bool) (a p : ℕ) → NotRule a → Only NotRule (refuseUnless c a p)
@@ -21,7 +21,7 @@ unfolding gateRefusal
 only-gate m n j =
     only-otherwise NotRule _ _ (given (gateShape (recordCount m j) (recordTable m j) (recordPins m j)) 5 j (omega arith, omega arith))
     (only-otherwise NotRule _ _ (given (usedBelow (n + j) (recordCount m j) (recordPins m j)) 6 j (omega arith, omega arith))
-    (given (flipAccepted (recordKind m j) (recordField m j)) 7 j (omega arith, omega arith)))
+    (only-flip 7 j (recordKind m j) (recordField m j) (omega arith, omega arith)))
 
 only-output : (m : List ℕ) (n g k : ℕ) → Only NotRule (outputRefusal m n g k)
 unfolding outputRefusal

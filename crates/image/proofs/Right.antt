@@ -6,13 +6,15 @@ use mathlib.Core.Path.{_≡_}
 use native.Mathlib.Omega.{arith}
 use borrow.Author.Tests.{leb-true, ltb-true, eqb-true}
 use lib.ListN.{getD}
-use Rattle.chance.specs.Flip.{flipAccepted}
+use Rattle.chance.specs.Number.{atMostHalf}
+use Rattle.chance.specs.Flip.{flipAccepted, flipChance}
 use Rattle.rules.proofs.Facts.{both, counts-hold, Shape, shape-holds, used-holds}
 use Rattle.refusal.specs.declared.Judgement.the-variants.{Fine}
 use Rattle.refusal.proofs.Laws.{unless-fine, otherwise-fine, lowest-fine}
 use Rattle.image.specs.Image.{imageInputs, imageGates, imageOutputs}
 use Rattle.image.specs.Image.{middle, recordCount, recordKind, recordTable, recordPins, recordField, outputAt}
 use Rattle.image.specs.Refusals.{lengthRight, backRight, trailerRefusal, TrailerRight, gateRefusal, outputRefusal, middleRefusal, imageRefusal}
+use Rattle.image.proofs.Flips.{flip-fine}
 
 -- ---- 1 to 4
 
@@ -39,12 +41,13 @@ trailer-right bs e =
       inside = leb-true _ _ (s .1);
     }
 
--- ---- 5 to 7
+-- ---- 5 to 7, and 22
 
 pub record GateRight (m : List ℕ) (n j : ℕ) : Type 0 where
   pub shape : Shape (recordCount m j) (recordTable m j) (recordPins m j)
   pub below : (i : ℕ) → i < recordCount m j → getD (recordPins m j) i 0 < n + j
   pub accepted : flipAccepted (recordKind m j) (recordField m j) ≡ true
+  pub low : atMostHalf (flipChance (recordKind m j) (recordField m j)) ≡ true
 
 pub gate-right : (m : List ℕ) (n j : ℕ) → gateRefusal m n j ≡ Fine → GateRight m n j
 unfolding gateRefusal
@@ -54,10 +57,12 @@ gate-right m n j e =
     let five = otherwise-fine _ _ e in
     let six = otherwise-fine _ _ (five .1) in
     let s = shape-holds a (recordTable m j) ps (unless-fine _ 5 j (five .0)) in
+    let flip = flip-fine 7 j (recordKind m j) (recordField m j) (six .1) in
     record {
       shape = s;
       below = λ i l. used-holds (n + j) a ps (unless-fine _ 6 j (six .0)) i l (omega (arith, s .pin-count));
-      accepted = unless-fine _ 7 j (six .1);
+      accepted = flip .0;
+      low = flip .1;
     }
 
 -- ---- all of them, 8 too

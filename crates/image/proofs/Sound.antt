@@ -8,7 +8,7 @@ use lib.Pow.{pow-pos}
 use Rattle.rounding.specs.Rounding.{unitsInOne, toUnits}
 use Rattle.chance.specs.Number.{chanceScale}
 use Rattle.chance.specs.Flip.{flipUnits}
-use Rattle.chance.proofs.Laws.{flip-chance-at-most, flip-units-at-most}
+use Rattle.chance.proofs.Laws.{flip-chance-at-most, low-units}
 use Rattle.area.specs.Layout.{pins, flip, largestFlip, reservedWord}
 use Rattle.area.specs.Rules.{GateShaped, NetSound, FiguresSound, Workable}
 use Rattle.lists.proofs.Joined.{length-listed, listed-at}
@@ -37,7 +37,7 @@ module _ (bs rest : List ℕ) (right : ImageRight bs) where
 
   units-fit : (j : ℕ) → j < imageGates bs → flip (imageWords bs ++ rest) j ≤ largestFlip
   unfolding recordUnits
-  units-fit j l = rw (gate-held bs rest j l .same-units) (flip-units-at-most (recordKind (middle bs) j) (recordField (middle bs) j) (right .gate j l .accepted))
+  units-fit j l = rw (gate-held bs rest j l .same-units) (low-units (recordKind (middle bs) j) (recordField (middle bs) j) (right .gate j l .low))
 
   net-sound : NetSound (imageWords bs ++ rest)
   unfolding imageWords middleWords

@@ -1,11 +1,12 @@
--- Refusals 1 to 8 of document 01 in their order.
+-- Refusals 1 to 8 of document 01, and 22 of document 02, card 8, in their order.
 use Prim.Native.Nat.{ℕ, _+_, _≤_}
 use mathlib.Core.Path.{_≡_}
 use mathlib.Core.Bool.{Bool, _&&_}
 use mathlib.Core.List.{List}
 use lib.ListN.{length}
 use lib.Dec.{leb, ltb, eqb}
-use Rattle.chance.specs.Flip.{flipAccepted}
+use Rattle.chance.specs.Number.{atMostHalf}
+use Rattle.chance.specs.Flip.{flipAccepted, flipChance}
 use Rattle.area.specs.Layout.{mostInputs, mostGates, mostOutputs}
 use Rattle.area.specs.Rules.{gateShape, usedBelow, countsInRange}
 use Rattle.refusal.specs.declared.Judgement.{Judgement}
@@ -27,12 +28,17 @@ trailerRefusal bs =
     (otherwise (refuseUnless (eqb (imageFormat bs) knownFormat) 2 0)
     (otherwise (refuseUnless (countsInRange (imageInputs bs) (imageGates bs) (imageOutputs bs)) 3 0) (refuseUnless (backRight bs) 4 0)))
 
--- 5, 6, 7 for gate j of a netlist with n inputs
+-- a flip for gate j: a bad kind or field has a number of its own in an image, 7, and in a call, 11; then 22, a chance above 0.5 before conversion
+unfoldable pub flipRefusal : ℕ → ℕ → ℕ → List ℕ → Judgement
+flipRefusal bad j kind field =
+    otherwise (refuseUnless (flipAccepted kind field) bad j) (refuseUnless (atMostHalf (flipChance kind field)) 22 j)
+
+-- 5, 6, 7, 22 for gate j of a netlist with n inputs
 unfoldable pub gateRefusal : List ℕ → ℕ → ℕ → Judgement
 gateRefusal m n j =
     otherwise (refuseUnless (gateShape (recordCount m j) (recordTable m j) (recordPins m j)) 5 j)
     (otherwise (refuseUnless (usedBelow (n + j) (recordCount m j) (recordPins m j)) 6 j)
-    (refuseUnless (flipAccepted (recordKind m j) (recordField m j)) 7 j))
+    (flipRefusal 7 j (recordKind m j) (recordField m j)))
 
 -- 8 for output k of a netlist with n inputs and g gates
 unfoldable pub outputRefusal : List ℕ → ℕ → ℕ → ℕ → Judgement

@@ -1,4 +1,4 @@
-// Reading a netlist image: refusals 1 to 8 of document 01, and the words of a work area whose figures are not worked out.
+// Reading a netlist image: refusals 1 to 8 of document 01 and 22 of document 02, and the words of a work area whose figures are not worked out.
 ghost use mathlib.Core.Path.{_≡_};
 ghost use Prim.Native.Nat.{_+_, _<_, _≤_};
 ghost use lib.ListN.{length};
@@ -95,7 +95,7 @@ fn eight_bytes(bytes: &[u8], at: usize) -> [u8; 8]
     ]
 }
 
-// Gate j: refusals 5, 6 and 7, else its words, the figure word 0.
+// Gate j: refusals 5, 6, 7 and 22, else its words, the figure word 0.
 fn load_gate(middle: &[u8], inputs: usize, j: usize, words: &mut [u32]) -> Judgement
     requires { ⌜ recordAt j + recordBytes ≤ length (now middle) ⌝ }
     requires { ⌜ figureIndex j < length (now words) ⌝ }
@@ -120,6 +120,7 @@ fn load_gate(middle: &[u8], inputs: usize, j: usize, words: &mut [u32]) -> Judge
             area::store(words, area::gate_index(j), &gate[..]);
             Judgement::Fine
         }
+        FlipUnits::AboveHalf => Judgement::Refused(refusal::ABOVE_HALF, j as u32),
         FlipUnits::Refused => Judgement::Refused(refusal::GATE_FLIP, j as u32),
     }
 }

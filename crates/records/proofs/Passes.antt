@@ -1,4 +1,4 @@
--- A written image passes refusals 1 to 8. Assumes nothing.
+-- A written image passes refusals 1 to 8 and 22. Assumes nothing.
 use Prim.Native.Nat.{ℕ, zero, suc, _+_, _*_, _/_, _%_, _<_, _≤_}
 use mathlib.Core.Path.{_≡_, refl, ap, ap₂, sym, _∙_}
 use mathlib.Core.Bool.{true}
@@ -11,9 +11,12 @@ use Rattle.lists.proofs.Joined.{drop-joined}
 use Rattle.rules.proofs.Facts.{Shape, shape-passes, used-passes}
 use Rattle.refusal.specs.declared.Judgement.the-variants.{Fine}
 use Rattle.refusal.proofs.Laws.{fine-lowest}
-use Rattle.chance.specs.Flip.{flipAccepted}
+use Rattle.chance.specs.Number.{atMostHalf}
+use Rattle.chance.specs.Flip.{flipAccepted, flipChance}
+use Rattle.chance.proofs.Laws.{never-chance, no-chance-low}
 use Rattle.image.specs.Image.{u16At, recordCount, recordKind, recordTable, recordPins, recordField, eightBytes, outputAt}
-use Rattle.image.specs.Refusals.{gateRefusal, outputRefusal, middleRefusal, imageRefusal}
+use Rattle.image.specs.Refusals.{flipRefusal, gateRefusal, outputRefusal, middleRefusal, imageRefusal}
+use Rattle.image.proofs.Flips.{flip-passes}
 use Rattle.netlist.specs.Netlist.{Netlist, gateAt}
 use Rattle.records.specs.Bytes.{Contents, noField, netContents, twoBytes, contentsRecord, gatesBytes, outputsBytes, middleOf}
 use Rattle.records.specs.Passes.{Fits, four, ContentsPass, ContentsReadBack, Holdable, WrittenPasses}
@@ -106,7 +109,7 @@ module _ (w : Contents) (h : Fits w) where
     unfolding gateRefusal
     gate-passes =
         rw (
-          ap₂ flipAccepted kind-again field-again ∙ h .gate j here .accepted,
+          ap₂ (flipRefusal 7 j) kind-again field-again ∙ flip-passes 7 j (w .kind j) (w .field j) (h .gate j here .accepted) (h .gate j here .low),
           count-again,
           table-again,
           pins-again,
@@ -180,6 +183,9 @@ never-accepted : flipAccepted 0 noField ≡ true
 unfolding flipAccepted
 never-accepted = refl
 
+never-low : atMostHalf (flipChance 0 noField) ≡ true
+never-low = ap atMostHalf (never-chance 0 noField refl) ∙ no-chance-low
+
 pub holdable-fits : (net : Netlist) → Holdable net → Fits (netContents net)
 holdable-fits net h =
     record {
@@ -194,6 +200,7 @@ holdable-fits net h =
             unused-zero = λ i past. List·getD-eq-default (gateAt net j .pins) 0 past;
             pins-below = h .pins-below j here;
             accepted = never-accepted;
+            low = never-low;
             eight = refl;
           };
       outputs-below = h .outputs-below;

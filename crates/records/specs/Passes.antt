@@ -1,4 +1,4 @@
--- What is promised of a written image: it passes refusals 1 to 8, and opening reads from it what was written.
+-- What is promised of a written image: it passes refusals 1 to 8 and 22, and opening reads from it what was written.
 use Prim.Native.Nat.{ℕ, _+_, _^_, _<_, _≤_}
 use mathlib.Core.Bool.{true}
 use mathlib.Core.List.{List, [], _∷_}
@@ -8,20 +8,22 @@ use Rattle.refusal.specs.declared.Judgement.the-variants.{Fine}
 use Rattle.lists.specs.Lists.{Below}
 use Rattle.netlist.specs.Netlist.{Netlist, gateAt}
 use Rattle.netlist.specs.WellFormed.{PinsBelow}
-use Rattle.chance.specs.Flip.{flipAccepted}
+use Rattle.chance.specs.Number.{atMostHalf}
+use Rattle.chance.specs.Flip.{flipAccepted, flipChance}
 use Rattle.area.specs.Layout.{mostInputs, mostGates, mostOutputs, mostPins}
 use Rattle.image.specs.Refusals.{imageRefusal}
 use Rattle.image.specs.Netlist.{imageNet}
 use Rattle.image.specs.Image.{imageInputs, imageGates, imageOutputs, middle, recordCount, recordKind, recordTable, recordPins, recordField, outputAt}
 use Rattle.records.specs.Bytes.{Contents, imageWith, imageOf}
 
--- gate j as refusals 5, 6 and 7 want it: its unused pins, and those past the fourth, are 0
+-- gate j as refusals 5, 6, 7 and 22 want it: its unused pins, and those past the fourth, are 0
 pub record GateFits (w : Contents) (j : ℕ) : Type 0 where
   pub few-pins : w .count j ≤ mostPins
   pub table-fits : w .table j < 2 ^ 2 ^ w .count j
   pub unused-zero : (i : ℕ) → w .count j ≤ i → getD (w .pins j) i 0 ≡ 0
   pub pins-below : (i : ℕ) → i < w .count j → getD (w .pins j) i 0 < w .inputs + j
   pub accepted : flipAccepted (w .kind j) (w .field j) ≡ true
+  pub low : atMostHalf (flipChance (w .kind j) (w .field j)) ≡ true
   pub eight : length (w .field j) ≡ 8
 
 -- what an image can hold

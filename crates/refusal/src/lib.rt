@@ -1,4 +1,4 @@
-// Refusals: what is judged of an image, an area or a call's arguments, and the numbers of document 01 and of document 02, cards 1, 4 and 7.
+// Refusals: what is judged of an image, an area or a call's arguments, and the numbers of document 01 and of document 02, cards 1, 4, 7 and 8.
 ghost use mathlib.Core.Path.{_≡_};
 ghost use Prim.Native.Nat.{_<_};
 ghost use lib.ListN.{length};
@@ -50,6 +50,9 @@ pub const IMAGE_SLICE: u8 = 20;
 
 // A slice too short for the image of an area.
 pub const WRITTEN_SLICE: u8 = 21;
+
+// A chance above 0.5, in an image or in a call.
+pub const ABOVE_HALF: u8 = 22;
 
 // Refused because of the state.
 pub const TOO_SHORT: u8 = 13;

@@ -185,7 +185,8 @@ module _ (ws : List ℕ) (workable : Workable ws) where
       )) i in
       omega (
         arith,
-        failure-at-most unitsInOne (omega arith) (table ws j) (map rightOf words) (map failureOf words) (flip ws j) fails (workable .figures .flip-fits j l),
+        failure-at-most unitsInOne (omega arith) (table ws j) (map rightOf words) (map failureOf words) (flip ws j) fails
+            (omega (arith, workable .figures .flip-fits j l)),
         bit-fits (answer (table ws j) (map rightOf words)),
       )
 

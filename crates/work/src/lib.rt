@@ -7,7 +7,7 @@ ghost use Prim.Native.Nat.{ℕ, _+_, _-_, _/_, _<_, _≤_};
 ghost use lib.ListN.{getD};
 ghost use Rattle.rounding.specs.Rounding.{unitsInOne};
 ghost use Rattle.figure.specs.Steps.{firstPins, Split};
-ghost use Rattle.area.specs.Layout.{mostPins, mostInputs, mostPatterns, mostSources, inputs, gates, usedPins, sourceWord};
+ghost use Rattle.area.specs.Layout.{mostPins, mostInputs, mostPatterns, mostSources, largestFlip, inputs, gates, usedPins, sourceWord};
 ghost use Rattle.area.specs.Rules.{Workable};
 ghost use Rattle.work.specs.Work.{gateFigure, workGate, workGates, reliabilityNow, workReliability, workAll};
 ghost use Rattle.work.specs.Work.{readsMarked, workMarked, markOf, invertBit, toggleWords, setWords};
@@ -220,7 +220,7 @@ pub fn toggle(area: &mut [u32], input: usize)
 pub fn set_units(area: &mut [u32], gate: usize, units: u32)
     requires { ⌜ Workable (now area) ⌝ }
     requires { ⌜ gate < gates (now area) ⌝ }
-    requires { ⌜ units ≤ unitsInOne ⌝ }
+    requires { ⌜ units ≤ largestFlip ⌝ }
     ensures { λ _. ⌜ now (area .exit) ≡ setWords (now (area .entry)) gate units ⌝ }
 {
     let source = area::inputs(area) + gate;

@@ -14,6 +14,7 @@ use Rattle.lists.proofs.Joined.{joined-same}
 use Rattle.rules.proofs.Sound.{sound}
 use Rattle.chance.specs.Flip.{flipUnits}
 use Rattle.flips.specs.Written.{unitsKind, unitsField}
+use Rattle.flips.specs.Statements.{ReadBack}
 use Rattle.flips.proofs.Laws.{units-read-back}
 use Rattle.area.specs.Layout.{inputs, gates, outputs, pinCount, table, pins, flip, output}
 use Rattle.area.specs.Rules.{Workable, Sound}
@@ -27,6 +28,9 @@ use Rattle.written.specs.Image.{areaContents, areaImage}
 use Rattle.written.specs.Statements.{SameWritten, AreaWritten, WrittenAgain, OneForm}
 
 module _ (ws : List ℕ) (work : Workable ws) where
+  flip-again : (j : ℕ) → j < gates ws → ReadBack (flip ws j)
+  flip-again j here = units-read-back (flip ws j) (omega (arith, work .figures .flip-fits j here))
+
   gate-fits : (j : ℕ) → j < gates ws → GateFits (areaContents ws) j
   gate-fits j here =
       let g = work .net .gate j here in
@@ -35,7 +39,8 @@ module _ (ws : List ℕ) (work : Workable ws) where
         table-fits = g .table-bits;
         unused-zero = g .unused-zero;
         pins-below = g .pins-below;
-        accepted = units-read-back (flip ws j) (work .figures .flip-fits j here) .accepted;
+        accepted = flip-again j here .accepted;
+        low = flip-again j here .low (work .figures .flip-fits j here);
         eight = refl;
       }
 
@@ -70,7 +75,7 @@ module _ (ws : List ℕ) (work : Workable ws) where
   unfolding recordUnits
   written-units j here =
       let read = contents-read-back (areaContents ws) area-fits .gate j here in
-      ap₂ flipUnits (read .kind) (read .field) ∙ units-read-back (flip ws j) (work .figures .flip-fits j here) .again
+      ap₂ flipUnits (read .kind) (read .field) ∙ flip-again j here .again
 
 pub written-sound : (ws : List ℕ) → Sound ws → AreaWritten ws
 written-sound ws s =

@@ -34,13 +34,13 @@ writings =
           ∷ [];
       bytes = printedImage;
     }
-    -- flips: none, 2^-30, 3 × 2^-30, 0.05 to the nearest unit, one unit below 1, and 1
+    -- flips: none, 2^-30, 3 × 2^-30, 0.05 to the nearest unit, one unit below 0.5, and 0.5
     ∷ record { words = bufferWords 0; bytes = bufferBytes 0 (replicate 8 0) }
     ∷ record { words = bufferWords 1; bytes = bufferBytes 1 (0 ∷ 0 ∷ 0 ∷ 0 ∷ 0 ∷ 0 ∷ 0x10 ∷ 0x3e ∷ []) }
     ∷ record { words = bufferWords 3; bytes = bufferBytes 1 (0 ∷ 0 ∷ 0 ∷ 0 ∷ 0 ∷ 0 ∷ 0x28 ∷ 0x3e ∷ []) }
     ∷ record { words = bufferWords 53_687_091; bytes = bufferBytes 1 (0 ∷ 0 ∷ 0 ∷ 0x98 ∷ 0x99 ∷ 0x99 ∷ 0xa9 ∷ 0x3f ∷ []) }
-    ∷ record { words = bufferWords 1_073_741_823; bytes = bufferBytes 1 (0 ∷ 0 ∷ 0x80 ∷ 0xff ∷ 0xff ∷ 0xff ∷ 0xef ∷ 0x3f ∷ []) }
-    ∷ record { words = bufferWords 1_073_741_824; bytes = bufferBytes 1 (0 ∷ 0 ∷ 0 ∷ 0 ∷ 0 ∷ 0 ∷ 0xf0 ∷ 0x3f ∷ []) }
+    ∷ record { words = bufferWords 536_870_911; bytes = bufferBytes 1 (0 ∷ 0 ∷ 0 ∷ 0xff ∷ 0xff ∷ 0xff ∷ 0xdf ∷ 0x3f ∷ []) }
+    ∷ record { words = bufferWords 536_870_912; bytes = bufferBytes 1 (0 ∷ 0 ∷ 0 ∷ 0 ∷ 0 ∷ 0 ∷ 0xe0 ∷ 0x3f ∷ []) }
     ∷ []
 
 abbrev pub WritingsHold : Type 0

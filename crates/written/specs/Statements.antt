@@ -25,7 +25,7 @@ pub record SameWritten (vs ws : List ℕ) : Type 0 where
   pub same-gate : (j : ℕ) → j < gates ws → SameGate vs ws j
   pub same-output : (k : ℕ) → k < outputs ws → output vs k ≡ output ws k
 
--- it passes refusals 1 to 8, every field is read back, and every flip becomes the same units
+-- it passes refusals 1 to 8 and 22, every field is read back, and every flip becomes the same units
 pub record AreaWritten (ws : List ℕ) : Type 0 where
   pub passes : imageRefusal (areaImage ws) ≡ Fine
   pub read-back : ReadAs (areaImage ws) (areaContents ws)

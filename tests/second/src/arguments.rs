@@ -2,7 +2,7 @@
 
 use crate::compare::Call;
 use crate::counts::{Method, MAX_LISTED};
-use crate::images::{bad_flip, damage, good_draft, good_flip, noise, Size};
+use crate::images::{bad_flip, damage, good_draft, good_flip, high_flip, noise, Size};
 use crate::model::{Counts, HEAD, MAX_WEIGHT};
 use crate::random::Random;
 use crate::written;
@@ -15,12 +15,12 @@ pub fn name(random: &mut Random, count: u32) -> u32 {
     random.below(u64::from(count)) as u32
 }
 
-/// A flip that is good six times in seven.
+/// A flip that is good three times in four.
 pub fn flip(random: &mut Random) -> (u8, [u8; 8]) {
-    if random.once_in(7) {
-        bad_flip(random)
-    } else {
-        good_flip(random)
+    match random.below(8) {
+        0 => bad_flip(random),
+        1 => high_flip(random),
+        _ => good_flip(random),
     }
 }
 
@@ -126,8 +126,9 @@ pub fn image(random: &mut Random, size: Size) -> Vec<u8> {
     match random.below(4) {
         0 => noise(random, &draft.bytes()),
         1 => {
-            let mut numbers: Vec<u8> =
-                (0..random.between(1, 3)).map(|_| random.between(1, 9) as u8).collect();
+            let mut numbers: Vec<u8> = (0..random.between(1, 3))
+                .map(|_| random.pick(&[1, 2, 3, 4, 5, 6, 7, 8, 9, 22]))
+                .collect();
             // Later parts first: damage to the lengths is measured on what the others left.
             numbers.sort_by(|a, b| b.cmp(a));
             for number in numbers {

@@ -4,7 +4,7 @@
 use crate::compare::Call;
 use crate::counts;
 use crate::exact::{self, ExactSums};
-use crate::model::{self, flip_chance, Counts, Model, Netlist, Refusal};
+use crate::model::{self, Counts, Model, Netlist, Refusal};
 use crate::written;
 
 pub struct Book {
@@ -58,8 +58,7 @@ impl Book {
             }
             Call::Set { gate, kind, field } => {
                 named_exists(*gate, self.counts().gates)?;
-                let refused = Refusal { number: 11, place: *gate };
-                let chance = flip_chance(*kind, *field).ok_or(refused)?;
+                let chance = Model::DOCUMENT.judge_flip(11, *gate, *kind, *field)?;
                 let entry = &mut self.netlist.gates[*gate as usize];
                 entry.kind = *kind;
                 entry.chance = chance;

@@ -177,7 +177,7 @@ pub fn lent_counts(room: usize) -> Vec<u32> {
 /// How often each call gave each answer: row by call, column by refusal number, column 0 for done.
 #[derive(Default)]
 pub struct Tally {
-    pub counts: [[u64; 22]; CALL_NAMES.len()],
+    pub counts: [[u64; 23]; CALL_NAMES.len()],
 }
 
 impl Tally {
@@ -204,9 +204,9 @@ impl Tally {
     /// Every answer that a call can give must have been seen at least `times` times.
     pub fn assert_all_seen(&self, times: u64) {
         let possible: [&[usize]; CALL_NAMES.len()] = [
-            &[0, 1, 2, 3, 4, 5, 6, 7, 8, 9, 13],
+            &[0, 1, 2, 3, 4, 5, 6, 7, 8, 9, 13, 22],
             &[0, 10, 13, 14],
-            &[0, 10, 11, 13, 14],
+            &[0, 10, 11, 13, 14, 22],
             &[0, 13, 14],
             &[0, 10, 13, 14],
             &[0, 12, 13, 14],

@@ -1,7 +1,8 @@
 //! Makers of random netlist images, whole and damaged, and of areas that no call left.
 
-use crate::model::{self, gate_at, Counts, U};
+use crate::model::{self, gate_at, Counts, MAX_FLIP, U};
 use crate::random::Random;
+use std::cmp::Ordering;
 
 /// One gate record, before it becomes twenty bytes.
 #[derive(Clone, Debug, Default)]
@@ -104,22 +105,78 @@ pub fn strike_bits(strike: u32, window: u32) -> (u8, [u8; 8]) {
 
 const ONE_F64: u64 = 0x3FF0_0000_0000_0000;
 const ONE_F32: u32 = 0x3F80_0000;
+const HALF_F64: u64 = 0x3FE0_0000_0000_0000;
+const HALF_F32: u32 = 0x3F00_0000;
 
-/// An acceptable flip: common figures, edges of the number format, and figures where rounding shows.
+/// Two f32 with all their digits whose product is nearly 0.5: in 2^-24 each, and above or below it by
+/// one or two of 2^-48.
+const NEAR_HALF: [(u32, u32); 3] =
+    [(10_610_063, 13_264_529), (8_388_609, 16_777_214), (8_392_705, 16_769_026)];
+
+fn in_f32(digits: u32) -> f32 {
+    digits as f32 / (1 << 24) as f32
+}
+
+/// An acceptable flip: one of `any_flip` that is at most 0.5.
 pub fn good_flip(random: &mut Random) -> (u8, [u8; 8]) {
-    match random.below(12) {
-        0 => NEVER,
+    loop {
+        let (kind, field) = any_flip(random);
+        if !is_high(kind, field) {
+            return (kind, field);
+        }
+    }
+}
+
+/// A flip that is good but for a chance above 0.5.
+pub fn high_flip(random: &mut Random) -> (u8, [u8; 8]) {
+    loop {
+        let (kind, field) = any_flip(random);
+        if is_high(kind, field) {
+            return (kind, field);
+        }
+    }
+}
+
+fn is_high(kind: u8, field: [u8; 8]) -> bool {
+    let chance = model::flip_chance(kind, field).expect("floats from 0 to 1");
+    chance.against_half() == Ordering::Greater
+}
+
+/// A flip with every float from 0 to 1: common figures, edges of the number format, figures where
+/// rounding shows, and those beside 0.5.
+fn any_flip(random: &mut Random) -> (u8, [u8; 8]) {
+    match random.below(16) {
+        0 | 12 => NEVER,
         1 => chance(random.pick(&[0.0, -0.0, 0.05, 0.5, 1.0, 0.25, 1.0 / 3.0, 0.9])),
         2 => chance_bits(random.pick(&[
             1,
             0x000F_FFFF_FFFF_FFFF,
             0x0010_0000_0000_0000,
+            HALF_F64 - 1,
+            HALF_F64,
+            HALF_F64 + 1,
             ONE_F64 - 1,
             ONE_F64,
             1 << 63,
         ])),
         // Log-uniform: nearly all of these are far below half a unit.
         3 => chance_bits(random.below(ONE_F64 + 1)),
+        // Up to two units from 0.5, most of them nearest to it.
+        13 => chance_bits(HALF_F64 - (1 << 22) + random.below(1 << 24)),
+        14 => {
+            let (first, second) = random.pick(&NEAR_HALF);
+            let flip = random.pick(&[(first, second), (second, first)]);
+            strike(in_f32(flip.0), in_f32(flip.1))
+        }
+        15 => {
+            let beside = random.pick(&[HALF_F32 - 1, HALF_F32, HALF_F32 + 1]);
+            let whole = random.pick(&[ONE_F32 - 1, ONE_F32]);
+            if random.once_in(2) {
+                strike_bits(beside, whole)
+            } else {
+                strike_bits(whole, beside)
+            }
+        }
         // Exact halves of a unit, and their neighbours on both sides.
         4 | 5 => {
             let odd = 2 * random.below(U) + 1;
@@ -312,7 +369,7 @@ pub fn chain(random: &mut Random, inputs: u16, gates: u16) -> Draft {
 // ---------------------------------------------------------------------------------------------
 // Damage
 
-/// Damages a draft so that refusal `number` (1 to 9) applies, whatever else is wrong with it. False
+/// Damages a draft so that refusal `number` (1 to 9, or 22) applies, whatever else is wrong with it. False
 /// if this draft offers no place for that damage.
 pub fn damage(random: &mut Random, draft: &mut Draft, number: u8) -> bool {
     match number {
@@ -327,6 +384,10 @@ pub fn damage(random: &mut Random, draft: &mut Draft, number: u8) -> bool {
         6 => damage_pin(random, draft),
         7 => on_a_gate(random, draft, |random, record| {
             (record.kind, record.field) = bad_flip(random);
+            true
+        }),
+        22 => on_a_gate(random, draft, |random, record| {
+            (record.kind, record.field) = high_flip(random);
             true
         }),
         8 => damage_output(random, draft),
@@ -479,11 +540,11 @@ pub fn noise(random: &mut Random, whole: &[u8]) -> Vec<u8> {
 // ---------------------------------------------------------------------------------------------
 // Areas that no call left
 
-/// A number of units, with the edges more often than chance would give them.
-fn some_units(random: &mut Random) -> u32 {
+/// A number of units up to `most`, with the edges more often than chance would give them.
+fn some_units(random: &mut Random, most: u64) -> u32 {
     match random.below(4) {
-        0 => random.pick(&[0, 1, (U / 2) as u32, U as u32 - 1, U as u32]),
-        _ => random.below(U + 1) as u32,
+        0 => random.pick(&[0, 1, (most / 2) as u32, most as u32 - 1, most as u32]),
+        _ => random.below(most + 1) as u32,
     }
 }
 
@@ -495,7 +556,7 @@ pub fn foreign_area(random: &mut Random, size: Size) -> Vec<u32> {
     let inputs = random.between(least_inputs, size.inputs.max(least_inputs)) as u32;
     let outputs = random.between(1, size.outputs) as u32;
     let pattern = random.below(1 << inputs) as u32;
-    let mut area = vec![inputs, gates, outputs, pattern, some_units(random), 0, 0, 0];
+    let mut area = vec![inputs, gates, outputs, pattern, some_units(random, U), 0, 0, 0];
     for gate in 0..gates {
         let wanted = random.below(5) as usize;
         let sources = any_sources(random, (inputs + gate) as u16, wanted);
@@ -506,8 +567,8 @@ pub fn foreign_area(random: &mut Random, size: Size) -> Vec<u32> {
         area.push(sources.len() as u32);
         area.push(u32::from(random_table(random, sources.len())));
         area.extend_from_slice(&pins);
-        area.push(some_units(random));
-        area.push(2 * some_units(random) + random.below(2) as u32);
+        area.push(some_units(random, MAX_FLIP));
+        area.push(2 * some_units(random, U) + random.below(2) as u32);
     }
     for _ in 0..outputs {
         area.push(random.below(u64::from(inputs + gates)) as u32);
@@ -577,7 +638,7 @@ pub fn break_area(random: &mut Random, area: &mut Vec<u32>, counts: Counts, way:
                 return false;
             };
             let flip = &mut area[gate_at(gate) + model::FLIP];
-            *flip = if *flip == 0 { 1 } else { (*flip).min(U as u32) - 1 };
+            *flip = if *flip == 0 { 1 } else { (*flip).min(MAX_FLIP as u32) - 1 };
         }
         "one word short" => area.truncate(needs - 1),
         "below eight words" => area.truncate(random.index(8)),
@@ -617,7 +678,10 @@ fn break_gate(random: &mut Random, words: &mut [u32], own: u32, way: &str) -> bo
             let pin = random.index(pins);
             words[model::PINS + pin] = random.pick(&[own, own, own + 1, own + 65_536, u32::MAX]);
         }
-        "flip" => words[model::FLIP] = random.pick(&[U as u32 + 1, 2 * U as u32, u32::MAX]),
+        "flip" => {
+            let most = MAX_FLIP as u32;
+            words[model::FLIP] = random.pick(&[most + 1, most + 1, U as u32, u32::MAX]);
+        }
         "figure" => {
             words[model::FIGURE] = random.pick(&[2 * U as u32 + 2, 2 * U as u32 + 3, u32::MAX]);
         }

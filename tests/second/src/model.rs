@@ -4,9 +4,13 @@
 use crate::answer::{Answer, Bench, GateReading, NetlistReading};
 use crate::counts::{self, Method};
 use crate::written;
+use std::cmp::Ordering;
 
 /// One, in units.
 pub const U: u64 = 1 << 30;
+
+/// The largest flip, in units.
+pub const MAX_FLIP: u64 = U / 2;
 
 pub const MAX_INPUTS: u32 = 12;
 pub const MAX_GATES: u32 = 1024;
@@ -59,6 +63,16 @@ pub enum Rounding {
     Down,
 }
 
+/// How a chance is held to 0.5.
+#[derive(Clone, Copy, Debug, PartialEq, Eq)]
+pub enum Limit {
+    Exact,
+    /// By its units, after conversion.
+    ByUnits,
+    /// 0.5 itself is refused.
+    Below,
+}
+
 /// The document's rules, or a deliberate departure from one of them. Only `Variant::DOCUMENT` is the
 /// model; the stand-in uses the others to show that the tests notice.
 #[derive(Clone, Copy, Debug)]
@@ -68,6 +82,7 @@ pub struct Variant {
     pub average_rounding: Rounding,
     pub dead_readers_count: bool,
     pub not_a_number_passes: bool,
+    pub limit: Limit,
 }
 
 impl Variant {
@@ -76,6 +91,7 @@ impl Variant {
         average_rounding: Rounding::HalfEven,
         dead_readers_count: false,
         not_a_number_passes: false,
+        limit: Limit::Exact,
     };
 }
 
@@ -120,6 +136,14 @@ impl Chance {
     fn times(self, other: Chance) -> Chance {
         // Only two f32 are ever multiplied: 24 bits times 24 bits.
         Chance { numerator: self.numerator * other.numerator, shift: self.shift + other.shift }
+    }
+
+    /// The order of the chance and 0.5. With a large shift it is far below.
+    pub fn against_half(self) -> Ordering {
+        if self.shift > 60 {
+            return Ordering::Less;
+        }
+        (2 * self.numerator).cmp(&(1 << self.shift))
     }
 }
 
@@ -312,18 +336,34 @@ impl Model {
         if !pins_are_earlier(inputs, number, &pins[..pin_count as usize]) {
             return refuse(6, number);
         }
-        match self.flip_chance(kind, field) {
-            None => refuse(7, number),
-            Some(chance) => Ok(Gate { pin_count, table, pins, kind, chance }),
-        }
+        let chance = self.judge_flip(7, number, kind, field)?;
+        Ok(Gate { pin_count, table, pins, kind, chance })
     }
 
-    fn flip_chance(&self, kind: u8, field: [u8; 8]) -> Option<Chance> {
+    /// The chance of a flip for a gate; a bad one is refused with `bad`, one above 0.5 with 22.
+    pub fn judge_flip(
+        &self,
+        bad: u8,
+        gate: u32,
+        kind: u8,
+        field: [u8; 8],
+    ) -> Result<Chance, Refusal> {
         let not_a_number = kind == 1 && f64::from_bits(u64::from_le_bytes(field)).is_nan();
         if self.variant.not_a_number_passes && not_a_number {
-            return Some(Chance::ZERO);
+            return Ok(Chance::ZERO);
         }
-        flip_chance(kind, field)
+        let Some(chance) = flip_chance(kind, field) else {
+            return refuse(bad, gate);
+        };
+        let too_high = match self.variant.limit {
+            Limit::Exact => chance.against_half() == Ordering::Greater,
+            Limit::ByUnits => u64::from(chance_units(chance)) > MAX_FLIP,
+            Limit::Below => chance.against_half() != Ordering::Less,
+        };
+        if too_high {
+            return refuse(22, gate);
+        }
+        Ok(chance)
     }
 
     fn lowest_shared_gate(&self, netlist: &Netlist) -> Option<u32> {
@@ -443,7 +483,7 @@ fn gate_words_are_good(area: &[u32], counts: Counts, gate: u32) -> bool {
     let pins = [words[PINS], words[PINS + 1], words[PINS + 2], words[PINS + 3]];
     shape_is_good(words[PIN_COUNT], words[TABLE], pins)
         && pins_are_earlier(counts.inputs, gate, &pins[..words[PIN_COUNT] as usize])
-        && u64::from(words[FLIP]) <= U
+        && u64::from(words[FLIP]) <= MAX_FLIP
         && u64::from(words[FIGURE]) <= 2 * U + 1
 }
 
@@ -640,9 +680,7 @@ impl Model {
         if gate >= counts.gates {
             return refuse(10, gate);
         }
-        let Some(chance) = self.flip_chance(kind, field) else {
-            return refuse(11, gate);
-        };
+        let chance = self.judge_flip(11, gate, kind, field)?;
         area[gate_at(gate) + FLIP] = units(self.variant.rounding, chance);
         let mut which = dependents(area, counts, counts.inputs + gate);
         which[gate as usize] = true;

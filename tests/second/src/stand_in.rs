@@ -4,7 +4,7 @@
 use crate::answer::{Answer, Bench};
 use crate::blif;
 use crate::counts::{self, Method};
-use crate::model::{self, Counts, Model, Rounding, Variant, PATTERN, RELIABILITY};
+use crate::model::{self, Counts, Limit, Model, Rounding, Variant, PATTERN, RELIABILITY};
 use crate::standing::{self, Bent, Outcome};
 use std::sync::OnceLock;
 
@@ -21,6 +21,10 @@ enum Fault {
     NotANumber,
     /// A strike and its window are multiplied in f32.
     StrikeInF32,
+    /// A chance is held to 0.5 by its units.
+    HalfByUnits,
+    /// A chance of 0.5 is refused.
+    HalfRefused,
     /// Opening looks at the area's length before anything else.
     LengthFirst,
     /// Turning an input leaves the reliability as it was.
@@ -103,12 +107,14 @@ enum Fault {
     ErrorsExchanged,
 }
 
-const FAULTS: [(&str, Fault); 45] = [
+const FAULTS: [(&str, Fault); 47] = [
     ("round_down", Fault::RoundDown),
     ("half_up", Fault::HalfUp),
     ("dead_readers", Fault::DeadReaders),
     ("not_a_number", Fault::NotANumber),
     ("strike_in_f32", Fault::StrikeInF32),
+    ("half_by_units", Fault::HalfByUnits),
+    ("half_refused", Fault::HalfRefused),
     ("length_first", Fault::LengthFirst),
     ("stale_reliability", Fault::StaleReliability),
     ("echo", Fault::Echo),
@@ -173,6 +179,8 @@ fn bench() -> Model {
         Fault::AverageHalfUp => variant.average_rounding = Rounding::HalfUp,
         Fault::DeadReaders => variant.dead_readers_count = true,
         Fault::NotANumber => variant.not_a_number_passes = true,
+        Fault::HalfByUnits => variant.limit = Limit::ByUnits,
+        Fault::HalfRefused => variant.limit = Limit::Below,
         _ => {}
     }
     Model { variant }

@@ -70,33 +70,35 @@ fn calls_on_opened_areas() {
         some_calls(&mut random, &mut pair, size, count, &mut tally);
     }
     tally.print();
-    tally.assert_answers(&[0, 10, 11, 12, 13, 15, 16, 17, 21], 1_000);
+    tally.assert_answers(&[0, 10, 11, 12, 13, 15, 16, 17, 21, 22], 1_000);
 }
 
 #[test]
 fn images_that_are_damaged() {
     let mut random = Random::new(seed() ^ 1);
     let mut tally = Tally::default();
-    let mut alone = [0u64; 10];
+    const NUMBERS: [u8; 10] = [1, 2, 3, 4, 5, 6, 7, 8, 9, 22];
+    let mut alone = [0u64; NUMBERS.len()];
     while tally.calls() < DAMAGED_IMAGES {
         let size = if random.once_in(400) { WIDE } else { SMALL };
         let mut draft = good_draft(&mut random, size);
         let words = draft.words() + random.index(3);
         let mut pair = Pair::new(random_words(&mut random, words));
-        let number = random.between(1, 9) as u8;
+        let chosen = random.index(NUMBERS.len());
+        let number = NUMBERS[chosen];
         if damage(&mut random, &mut draft, number) {
             let reply = pair.call(words, &Call::Open(draft.bytes()), &mut tally);
             assert_eq!(reply.number(), usize::from(number), "{draft:?}");
-            alone[usize::from(number)] += 1;
+            alone[chosen] += 1;
         }
         let other = arguments::image(&mut random, size);
         let lent = arguments::lent(&mut random, words, words);
         pair.call(lent, &Call::Open(other), &mut tally);
     }
     tally.print();
-    println!("damage of one kind alone, by refusal number: {:?}", &alone[1..]);
-    assert!(alone[1..].iter().all(|times| *times >= 1_000), "{alone:?}");
-    tally.assert_answers(&[0, 1, 2, 3, 4, 5, 6, 7, 8, 9, 13], 500);
+    println!("damage of one kind alone: {alone:?} of {NUMBERS:?}");
+    assert!(alone.iter().all(|times| *times >= 1_000), "{alone:?}");
+    tally.assert_answers(&[0, 1, 2, 3, 4, 5, 6, 7, 8, 9, 13, 22], 500);
 }
 
 #[test]
@@ -133,7 +135,7 @@ fn calls_on_areas_that_no_call_left() {
         println!("  broken alone, {name}: {times}");
         assert!(*times >= 100, "{name} was broken alone only {times} times");
     }
-    tally.assert_answers(&[0, 10, 11, 12, 13, 14], 1_000);
+    tally.assert_answers(&[0, 10, 11, 12, 13, 14, 22], 1_000);
     tally.assert_answers(&[15, 16, 17, 21], 300);
 }
 

@@ -10,7 +10,7 @@ use second::images::{
     FIRST_CUT, NEVER,
 };
 use second::model::{
-    gate_at, store_sum, Counts, FIGURE, FLIP, GATE_WORDS, PATTERN, RELIABILITY, U,
+    gate_at, store_sum, Counts, FIGURE, FLIP, GATE_WORDS, MAX_FLIP, PATTERN, RELIABILITY, U,
 };
 use second::random::{seed, Random};
 
@@ -82,7 +82,7 @@ fn two_buffers_into_an_and() {
     let gates = vec![
         Record::new(2, &[0], chance(0.5)),
         Record::new(2, &[1], NEVER),
-        Record::new(8, &[2, 3], chance(1.0)),
+        Record::new(8, &[2, 3], chance(0.25)),
     ];
     let draft = Draft { inputs: 2, gates, outputs: vec![4], ..Draft::default() };
     assert_eq!(by_both(&opened(&draft), &[3, 2, 1, 0]), [2, 2, 4]);
@@ -270,7 +270,7 @@ fn what_the_area_holds_of_a_pattern_has_no_part() {
         area[PATTERN] = random.below(1 << area[0]) as u32;
         area[RELIABILITY] = random.below(U + 1) as u32;
         for gate in 0..area[1] {
-            area[gate_at(gate) + FLIP] = random.below(U + 1) as u32;
+            area[gate_at(gate) + FLIP] = random.below(MAX_FLIP + 1) as u32;
             area[gate_at(gate) + FIGURE] = random.below(2 * U + 2) as u32;
         }
         store_sum(&mut area);

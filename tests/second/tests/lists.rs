@@ -9,7 +9,7 @@ use second::book::Book;
 use second::compare::{lent_bytes, lent_counts, perform, Call, Reply, CALL_NAMES};
 use second::exact::{self, outputs_under, Big};
 use second::ffi::Library;
-use second::images::{bad_flip, good_draft, good_flip, Size};
+use second::images::{bad_flip, good_draft, good_flip, high_flip, Size};
 use second::model::{self, Counts, Model};
 use second::random::{seed, Random};
 
@@ -188,6 +188,7 @@ fn chances_become_the_nearest_units() {
         let reply = perform(&Library, &mut area, &Call::Set { gate: 0, kind, field });
         assert_eq!(reply.refusal(), None, "kind {kind}, field {field:?}");
         let units = u64::from(area[8 + model::FLIP]);
+        assert!(units <= model::MAX_FLIP);
         assert_eq!(units, exact::nearest_units(chance), "kind {kind}, field {field:?}");
     }
     for _ in 0..100_000 {
@@ -195,6 +196,18 @@ fn chances_become_the_nearest_units() {
         let reply = perform(&Library, &mut area, &Call::Set { gate: 0, kind, field });
         assert_eq!(reply.refusal(), Some((11, 0)), "kind {kind}, field {field:?}");
     }
+    // Above 0.5, as whole numbers of 2^-1074; many of them are nearest to U / 2 units.
+    let half = Big::from_u64(1).shifted(exact::CHANCE_BITS - 1);
+    let mut nearest = 0;
+    for _ in 0..100_000 {
+        let (kind, field) = high_flip(&mut random);
+        let chance = model::flip_chance(kind, field).expect("floats from 0 to 1");
+        assert!(!exact::whole_chance(chance).at_most(&half), "kind {kind}, field {field:?}");
+        let reply = perform(&Library, &mut area, &Call::Set { gate: 0, kind, field });
+        assert_eq!(reply.refusal(), Some((22, 0)), "kind {kind}, field {field:?}");
+        nearest += u64::from(exact::nearest_units(chance) == model::MAX_FLIP);
+    }
+    assert!(nearest >= 5_000, "{nearest}");
 }
 
 /// The big numbers themselves, on cases small enough for u128.

@@ -6,7 +6,7 @@ use second::compare::{count, lent_bytes, lent_counts, write};
 use second::counts::{Method, MAX_LISTED, METHODS};
 use second::ffi::{self, Library};
 use second::images::{chance, Draft, Record, NEVER};
-use second::model::{gate_at, FIGURE, FLIP, PINS, U};
+use second::model::{gate_at, FIGURE, FLIP, MAX_FLIP, PINS, U};
 
 /// Two buffers into an AND that the first output reads; the second output reads an input.
 fn sound() -> Draft {
@@ -29,13 +29,19 @@ fn spoil_gate(draft: &mut Draft, number: u8, gate: usize) {
         5 => record.pins[3] = 1,
         6 => record.pins[0] = own,
         7 => record.kind = 3,
+        // Where the kind is 3 already it stays so: 7 comes first.
+        22 if record.kind == 3 => {}
+        22 => (record.kind, record.field) = chance(0.75),
         _ => unreachable!(),
     }
 }
 
+/// What a gate can be refused for, in the order in which it is tried.
+const OF_A_GATE: [u8; 4] = [5, 6, 7, 22];
+
 /// Applies the refusals of `set` (bit b stands for NUMBERS[b]) and gives the image and the length of
 /// the area to lend.
-const NUMBERS: [u8; 10] = [1, 2, 3, 4, 5, 6, 7, 8, 9, 13];
+const NUMBERS: [u8; 11] = [1, 2, 3, 4, 5, 6, 7, 22, 8, 9, 13];
 
 fn spoilt(set: u32) -> (Vec<u8>, usize) {
     let has = |number: u8| {
@@ -43,7 +49,7 @@ fn spoilt(set: u32) -> (Vec<u8>, usize) {
         (set >> bit) & 1 == 1
     };
     let mut draft = sound();
-    for number in [5, 6, 7] {
+    for number in OF_A_GATE {
         if has(number) {
             spoil_gate(&mut draft, number, 1);
         }
@@ -81,7 +87,7 @@ fn at_open_the_first_of_any_set_wins() {
         } else {
             let number = NUMBERS[set.trailing_zeros() as usize];
             let place = match number {
-                5..=8 => 1,
+                5..=8 | 22 => 1,
                 9 => 2,
                 _ => 0,
             };
@@ -97,8 +103,8 @@ fn at_open_the_first_of_any_set_wins() {
 #[test]
 fn at_open_an_earlier_gate_comes_before_a_lower_number() {
     let mut area = [0; 64];
-    for first in [5, 6, 7] {
-        for second in [5, 6, 7] {
+    for first in OF_A_GATE {
+        for second in OF_A_GATE {
             let mut draft = sound();
             spoil_gate(&mut draft, first, 0);
             spoil_gate(&mut draft, second, 2);
@@ -179,7 +185,8 @@ fn rule_faults() -> Vec<(usize, u32)> {
         (gate + 1, 16),
         (gate + PINS, 4),
         (gate + PINS + 2, 1),
-        (gate + FLIP, U as u32 + 1),
+        (gate + FLIP, MAX_FLIP as u32 + 1),
+        (gate + FLIP, U as u32),
         (gate + FIGURE, 2 * U as u32 + 2),
         // The first output only: the last word of the area is cut off by SHORT.
         (gate_at(3), 5),
@@ -216,10 +223,13 @@ fn check_calls(set: u32, rule: usize) {
 
     let mut area = before.clone();
     let gate = if bad_name { 3 } else { 1 };
-    let field = if bad_argument { f64::NAN } else { 0.5 }.to_le_bytes();
-    let answer = ffi::set_flip(&mut area, gate, 1, field);
-    assert_eq!(answer, expected(set, (), 3, (11, 1)), "set flip, {told}");
-    assert!(set == 0 || area == before, "set flip wrote, {told}");
+    let flips: &[(u8, f64)] =
+        if bad_argument { &[(11, f64::NAN), (11, -1.0), (22, 1.0)] } else { &[(0, 0.5)] };
+    for (number, chance) in flips {
+        let answer = ffi::set_flip(&mut area, gate, 1, chance.to_le_bytes());
+        assert_eq!(answer, expected(set, (), 3, (*number, 1)), "set flip, {told}");
+        assert!(set == 0 || area == before, "set flip wrote, {told}");
+    }
 
     let area_only = set & !ARGUMENT;
     let mut area = before.clone();

@@ -50,7 +50,6 @@ fn units(flip: (u8, [u8; 8])) -> u32 {
 fn chances_in_units() {
     assert_eq!(units(chance(0.05)), 53_687_091);
     assert_eq!(units(chance(0.5)), 536_870_912);
-    assert_eq!(units(chance(1.0)), ONE);
     assert_eq!(units(chance(0.0)), 0);
     assert_eq!(units(chance(-0.0)), 0);
     assert_eq!(units(NEVER), 0);
@@ -68,7 +67,7 @@ fn small_chances_round_a_half_to_the_even_unit() {
     assert_eq!(units(strike(1.0 / 65_536.0, 1.0 / 32_768.0)), 0);
     assert_eq!(units(strike(3.0 / 65_536.0, 1.0 / 32_768.0)), 2);
     assert_eq!(units(strike(1.0 / 65_536.0, 1.0 / 65_536.0)), 0);
-    assert_eq!(units(strike(1.0, 1.0)), ONE);
+    assert_eq!(units(strike(1.0, 0.5)), ONE / 2);
     assert_eq!(units(strike(-0.0, 1.0)), 0);
     // The smallest numbers of each format.
     assert_eq!(units(chance_bits(1)), 0);
@@ -139,15 +138,62 @@ fn an_and_into_an_inverter() {
     assert_eq!(ffi::read_netlist(&area).done().units, 971_736_351);
 }
 
+/// Two buffers in a row with these flips.
+fn in_a_row(first: (u8, [u8; 8]), second: (u8, [u8; 8])) -> Draft {
+    draft(1, vec![Record::new(2, &[0], first), Record::new(2, &[1], second)], &[2])
+}
+
 #[test]
-fn two_sure_flips_cancel() {
-    let gates = vec![Record::new(2, &[0], chance(1.0)), Record::new(2, &[1], chance(1.0))];
-    let (mut area, _) = opened(&draft(1, gates, &[2]));
-    assert_eq!(ffi::read_netlist(&area).done().units, ONE);
-    assert_eq!(ffi::read_gate(&area, 0).done().failure, ONE);
-    assert_eq!(ffi::read_gate(&area, 1).done().failure, 0);
-    ffi::toggle_input(&mut area, 0).done();
-    assert_eq!(ffi::read_netlist(&area).done().units, ONE);
+fn two_sure_flips_are_above_a_half() {
+    assert_eq!(open_answer(&in_a_row(chance(1.0), chance(1.0))), refused(22, 0));
+    let (mut area, _) = opened(&in_a_row(chance(0.5), chance(0.5)));
+    for _ in 0..2 {
+        assert_eq!(ffi::read_netlist(&area).done().units, ONE / 2);
+        assert_eq!(ffi::read_gate(&area, 1).done().failure, ONE / 2);
+        ffi::toggle_input(&mut area, 0).done();
+    }
+}
+
+/// Chances beside 0.5, by image and by call: the nearest of each form on both sides, and strikes whose
+/// product is nearer than either number tells.
+#[test]
+fn chances_beside_a_half() {
+    let half = 0.5f64.to_bits();
+    let half_f32 = 0.5f32.to_bits();
+    let one_f32 = 1.0f32.to_bits();
+    let in_f32 = |digits: u32| (digits as f32 / 16_777_216.0).to_bits();
+    let accepted = [
+        (chance_bits(half - 1), ONE / 2),
+        (chance_bits(half), ONE / 2),
+        (strike_bits(half_f32 - 1, one_f32), ONE / 2 - 32),
+        (strike_bits(half_f32, one_f32), ONE / 2),
+        (strike_bits(one_f32, half_f32), ONE / 2),
+        (strike_bits(half_f32 + 1, one_f32 - 2), ONE / 2),
+        // 0.5 - 2^-48
+        (strike_bits(in_f32(10_610_063), in_f32(13_264_529)), ONE / 2),
+    ];
+    let above = [
+        chance_bits(half + 1),
+        chance(0.5 + 0.5 / (1u64 << 30) as f64),
+        chance(1.0),
+        strike_bits(half_f32 + 1, one_f32 - 1),
+        strike_bits(half_f32 + 1, one_f32),
+        strike_bits(one_f32, half_f32 + 1),
+        // 0.5 + 2^-47, which is nearest to ONE / 2 units
+        strike_bits(in_f32(8_392_705), in_f32(16_769_026)),
+        strike(1.0, 1.0),
+    ];
+    for (flip, expected) in accepted {
+        assert_eq!(units(flip), expected, "{flip:?}");
+    }
+    for flip in above {
+        assert_eq!(open_answer(&in_a_row(chance(0.5), flip)), refused(22, 1), "{flip:?}");
+        let (mut area, _) = opened(&in_a_row(NEVER, NEVER));
+        let before = area.clone();
+        assert_eq!(ffi::set_flip(&mut area, 1, flip.0, flip.1), refused(22, 1), "{flip:?}");
+        assert_eq!(ffi::set_flip(&mut area, 2, flip.0, flip.1), refused(10, 2), "{flip:?}");
+        assert_eq!(area, before);
+    }
 }
 
 #[test]

@@ -5,7 +5,7 @@ use second::arguments;
 use second::exact::{Big, ExactSums, CHANCE_BITS};
 use second::ffi;
 use second::images::{chance, good_draft, Draft, Size};
-use second::model::{Model, Netlist, U};
+use second::model::{Model, Netlist, MAX_FLIP, U};
 use second::random::{seed, Random};
 use second::standing::{self, Bent, Outcome, Verdict};
 use std::cmp::Ordering;
@@ -174,7 +174,7 @@ fn close_pair(random: &mut Random, draft: &Draft) -> Option<(Draft, Draft)> {
         return None;
     }
     let gate = random.index(draft.gates.len());
-    let most = if random.once_in(2) { 200 } else { U - 40 };
+    let most = if random.once_in(2) { 200 } else { MAX_FLIP - 40 };
     let units = 20 + random.below(most);
     let step = if random.once_in(2) { 1 } else { random.between(2, 19) };
     let to = if random.once_in(2) { units + step } else { units - step };

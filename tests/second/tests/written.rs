@@ -9,7 +9,7 @@ use second::images::{
     break_area, chain, chance, foreign_area, good_draft, strike, Draft, Record, Size, AREA_BREAKS,
     FIRST_CUT, NEVER,
 };
-use second::model::{decode_f64, gate_at, store_sum, Counts};
+use second::model::{decode_f64, gate_at, store_sum, Counts, MAX_FLIP};
 use second::model::{FIGURE, FLIP, HEAD, PATTERN, PINS, PIN_COUNT, RELIABILITY, TABLE, U};
 use second::random::{seed, Random};
 use second::written::length;
@@ -83,11 +83,11 @@ fn a_wire() {
 #[test]
 fn flips_of_every_size() {
     let mut random = Random::new(seed() ^ 21);
-    let powers = (0..=30).map(|bit| 1u32 << bit);
+    let powers = (0..=29).map(|bit| 1u32 << bit);
     let beside = powers.flat_map(|power| [power - 1, power, power + 1]);
-    let edges = beside.filter(|units| u64::from(*units) <= U);
+    let edges = beside.filter(|units| u64::from(*units) <= MAX_FLIP);
     let others: Vec<u32> =
-        (0..200_000).map(|_| random.below(U + 1) as u32 >> random.below(30)).collect();
+        (0..200_000).map(|_| random.below(MAX_FLIP + 1) as u32 >> random.below(29)).collect();
     for units in edges.chain(others) {
         let mut area = vec![1, 1, 1, 0, 0, 0, 0, 0, 1, 2, 0, 0, 0, 0, units, 0, 1];
         store_sum(&mut area);
@@ -263,7 +263,7 @@ fn change(random: &mut Random, area: &mut [u32]) -> bool {
         0 => (PATTERN, 1 << inputs, false),
         1 => (RELIABILITY, U + 1, false),
         2 => (gate + FIGURE, 2 * U + 2, false),
-        3 => (gate + FLIP, U + 1, true),
+        3 => (gate + FLIP, MAX_FLIP + 1, true),
         4 => (gate + TABLE, 1 << (1 << pins), true),
         5 if pins > 0 => (gate + PINS + random.index(pins), u64::from(inputs + number), true),
         6 => (gate_at(gates) + random.index(outputs as usize), u64::from(inputs + gates), true),

@@ -109,7 +109,7 @@ work-row-requires c κs =
       (
         block-ready (a .area .now) (p .0 .0) start (l .rows) (reached t .kept) (l .gate) (inside t) (reached t .block) live,
         omega arith,
-        p .0 .0 .figures .flip-fits _ (inside t),
+        omega (arith, p .0 .0 .figures .flip-fits _ (inside t)),
       ),
       (
         block-right (a .area .now) (p .0 .0) start (l .rows) (reached t .kept) (l .gate) (inside t) (reached t .block) live (a .words .now) (p .1 .0 .0),

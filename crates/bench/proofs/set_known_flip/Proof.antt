@@ -1,14 +1,12 @@
 -- `bench::set_known_flip` meets its contract. Assumes nothing.
 use Prim.Native.Nat.{ℕ, _+_, _*_, _≤_, _<_}
-use mathlib.Core.Bool.{Bool, true}
 use mathlib.Core.List.{List, []}
 use mathlib.Core.Path.{_≡_, refl, sym, ap, ap₂, subst, _∙_}
 use native.Mathlib.Nat.{mul-le-mul-right}
 use native.Mathlib.Omega.{arith}
-use Rattle.refusal.specs.Judgement.{refuseUnless}
+use Rattle.refusal.specs.declared.Judgement.the-variants.{Fine, Refused}
 use Rattle.refusal.proofs.Laws.{otherwise-second}
-use Rattle.chance.specs.Flip.{flipAccepted, flipUnits}
-use Rattle.chance.proofs.Laws.{units-accepted, units-refused, flip-units-at-most}
+use Rattle.chance.specs.Flip.{flipUnits}
 use Rattle.netlist.specs.Live.{ifLive, readers}
 use Rattle.area.specs.Layout.{mostGates, largestFlip, inputs, gates, outputs, flip}
 use Rattle.area.specs.Rules.{NetSound, Sound}
@@ -18,9 +16,14 @@ use Rattle.area.proofs.Sum.{few-units, sum-has}
 use Rattle.work.specs.Work.{setWords}
 use Rattle.work.proofs.Frame.{same-set}
 use Rattle.work.proofs.Sound.{set-sum}
-use Rattle.calls.specs.Judgements.{read-gate, flipJudgement, lentJudgement}
+use Rattle.image.specs.Refusals.{flipRefusal}
+use Rattle.image.proofs.Flips.{flip-read, flip-above, flip-bad}
+use Rattle.calls.specs.Judgements.{set-flip, read-gate, flipJudgement, lentJudgement}
+use Rattle.calls.specs.Calls.{left}
 use Rattle.calls.proofs.Judgements.{lent-fine, gate-fine, set-after-gate}
 use borrow.Author.Needs.{needs}
+use Rattle.bench.specs.declared.FlipSet.the-variants.{Refused as SetRefused}
+use Rattle.bench.specs.Answers.{flipSet}
 use Rattle.bench.proofs.set_known_flip.Statement.{statement}
 use Rattle.bench.proofs.set_known_flip.Tie as tie
 
@@ -52,9 +55,10 @@ module _ (c : tie.After-index2) where
   abbrev units : ℕ
   units = c .before .before .before .before .before .before .units .given .0 .0
 
-  accepted : (flipAccepted (start .args .kind) (start .args .field) ≡ true) × (flipUnits (start .args .kind) (start .args .field) ≡ units)
+  accepted : (flipRefusal 11 g (start .args .kind) (start .args .field) ≡ Fine)
+      × (flipUnits (start .args .kind) (start .args .field) ≡ units) × (units ≤ largestFlip)
   accepted =
-      units-accepted (start .args .kind) (start .args .field) units
+      flip-read 11 g (start .args .kind) (start .args .field) units
       (sym (c .before .before .before .before .before .before .before .before .read-units .ensures)
       ∙ c .before .before .before .before .before .before .units .given .1)
 
@@ -86,17 +90,12 @@ module _ (c : tie.After-index2) where
 
 set-units-requires : tie.Need-set-units-requires
 set-units-requires c κs =
-    let a = start c .args in (
-      passed (start c) .workable,
-      (omega (arith, c .index2 .ensures, there (start c)), rw (← accepted c .1) (flip-units-at-most (a .kind) (a .field) (accepted c .0))),
-    )
+    (passed (start c) .workable, (omega (arith, c .index2 .ensures, there (start c)), accepted c .2))
 
 changed-sum-requires : tie.Need-changed-sum-requires
 changed-sum-requires c κs =
     let d = c .before .before .before .before in
-    let a = start d .args in
-    let fits = rw (accepted d .1) at (flip-units-at-most (a .kind) (a .field) (accepted d .0)) in
-    (omega (arith, had d, enough d), omega (arith, few d, fits))
+    (omega (arith, had d, enough d), omega (arith, few d, accepted d .2))
 
 -- what the flip is set in
 set-is : (c : tie.After-set-units) → c .set-units .last .0 ≡ worked (c .before)
@@ -117,7 +116,7 @@ returns c =
     let judged =
     set-after-gate (ws d) (a .gate) (a .kind) (a .field)
     ∙ otherwise-second (lentJudgement (ws d) (read-gate (a .gate))) (flipJudgement (a .gate) (a .kind) (a .field)) (start d .pre .0)
-    ∙ ap (λ (b : Bool). refuseUnless b 11 (a .gate)) (accepted d .0) in
+    ∙ accepted d .0 in
     let has : ifLive (a .live) (units d) ≡ ifLive (readers (netOf (ws d) [] []) (inputs (ws d) + g d)) (units d)
     = ap (λ (r : ℕ). ifLive r (units d)) (start d .pre .1 .0) in
     let sum : c .before .before .before .changed-sum .result ≡ flipSum (worked d)
@@ -134,16 +133,31 @@ returns c =
       rw judged (c .before .before .store-sum .ensures ∙ ap₂ storedSum (set-is u ∙ flips) (sum ∙ ap flipSum flips)),
     )
 
+-- a flip that is refused leaves every word
+left-alone : (s : tie.Start) (number : ℕ) →
+    let a = s .args in
+    flipRefusal 11 (a .gate) (a .kind) (a .field) ≡ Refused number (a .gate)
+    → (SetRefused number (a .gate) ≡ flipSet (flipJudgement (a .gate) (a .kind) (a .field)))
+    × (a .area .now ≡ left (a .area .now) (set-flip (a .gate) (a .kind) (a .field)))
+left-alone s number u =
+    let a = s .args in
+    let judged =
+    set-after-gate (a .area .now) (a .gate) (a .kind) (a .field)
+    ∙ otherwise-second (lentJudgement (a .area .now) (read-gate (a .gate))) (flipJudgement (a .gate) (a .kind) (a .field)) (s .pre .0)
+    ∙ u in
+    (rw u refl, rw judged refl)
+
 returns-2 : tie.Need-returns-2
 returns-2 c =
     let s = c .before .before .before .before in
     let a = s .args in
-    let u = units-refused (a .kind) (a .field) (sym (c .before .before .read-units .ensures) ∙ c .enum-told .given .1) in
-    let judged =
-    set-after-gate (a .area .now) (a .gate) (a .kind) (a .field)
-    ∙ otherwise-second (lentJudgement (a .area .now) (read-gate (a .gate))) (flipJudgement (a .gate) (a .kind) (a .field)) (s .pre .0)
-    ∙ ap (λ (b : Bool). refuseUnless b 11 (a .gate)) u in
-    (rw u refl, rw judged refl)
+    left-alone s 22 (flip-above 11 (a .gate) (a .kind) (a .field) (sym (c .before .before .read-units .ensures) ∙ c .enum-told .given .1))
+
+returns-3 : tie.Need-returns-3
+returns-3 c =
+    let s = c .before .before .before .before in
+    let a = s .args in
+    left-alone s 11 (flip-bad 11 (a .gate) (a .kind) (a .field) (sym (c .before .before .read-units .ensures) ∙ c .enum-told2 .given .1))
 
 pub set-known-flip-spec : {M : Type 1} → statement M
 set-known-flip-spec =
@@ -159,5 +173,7 @@ set-known-flip-spec =
     store-sum-requires
     (λ c. search needs)
     (λ c. search needs)
+    (λ c. search needs)
     returns
-    returns-2)
+    returns-2
+    returns-3)

@@ -1,19 +1,19 @@
--- `image::load_gate` meets its contract: the first of the three tests that fails decides, and a gate that passes is stored. Assumes nothing.
+-- `image::load_gate` meets its contract: the first of the tests that fails decides, and a gate that passes is stored. Assumes nothing.
 use Prim.Native.Nat.{_+_}
 use mathlib.Core.Path.{_≡_, sym, ap₂, _∙_}
 use lib.Seq.{sets}
 use denote.Ref.{now}
 use borrow.Author.Needs.{needs}
 use borrow.Author.Tests.{not-true, not-false}
-use Rattle.chance.specs.declared.FlipUnits.the-variants.{Units, Refused as NoUnits}
-use Rattle.chance.specs.Flip.{flipAccepted, readUnits}
-use Rattle.chance.proofs.Laws.{units-accepted, units-refused}
+use Rattle.chance.specs.declared.FlipUnits.the-variants.{Units, AboveHalf, Refused as NoUnits}
+use Rattle.chance.specs.Flip.{readUnits}
 use Rattle.area.specs.Rules.{gateShape, usedBelow}
 use Rattle.rules.proofs.Facts.{shape-holds}
 use Rattle.refusal.specs.Judgement.{refuseUnless, otherwise}
 use Rattle.refusal.proofs.Laws.{refused-not-fine}
 use Rattle.image.specs.Image.{recordCount, recordKind, recordTable, recordPins, recordField}
-use Rattle.image.specs.Refusals.{gateRefusal}
+use Rattle.image.specs.Refusals.{flipRefusal, gateRefusal}
+use Rattle.image.proofs.Flips.{flip-read, flip-above, flip-bad}
 use Rattle.image.proofs.Middle.{record-stored}
 use Rattle.image.proofs.load_gate.Statement.{statement}
 use Rattle.image.proofs.load_gate.Tie as tie
@@ -38,8 +38,8 @@ used-below-requires c κs =
 left-over : (c : tie.After-used-below) →
     let a = c .before .before .before .before .before .before .before .before .before .before .args in
     let m = now (a .middle) in
-    let flip = flipAccepted (recordKind m (a .j)) (recordField m (a .j)) in
-    gateRefusal m (a .inputs) (a .j) ≡ otherwise (refuseUnless (c .used-below .result) 6 (a .j)) (refuseUnless flip 7 (a .j))
+    gateRefusal m (a .inputs) (a .j)
+    ≡ otherwise (refuseUnless (c .used-below .result) 6 (a .j)) (flipRefusal 7 (a .j) (recordKind m (a .j)) (recordField m (a .j)))
 unfolding gateRefusal
 left-over c =
     let a = c .before .before .before .before .before .before .before .before .before .before .args in
@@ -59,7 +59,7 @@ returns-3 c =
     let m = now (a .middle) in
     let units = told .units .given .0 .0 in
     let is : readUnits (recordKind m (a .j)) (recordField m (a .j)) ≡ Units units = cc in
-    let said = units-accepted (recordKind m (a .j)) (recordField m (a .j)) units is in
+    let said = flip-read 7 (a .j) (recordKind m (a .j)) (recordField m (a .j)) units is in
     let count = read .before .before .before .wide .ensures .0 in
     let words = record-stored m (a .j) _ _ units _ count (read .before .two-bytes .ensures .0) (read .four-numbers .ensures) (said .1) in (
       rw (left-over asked, not-false (asked .used-below .result) (told .before .before .before .before .before .if2 .left), said .0),
@@ -71,8 +71,17 @@ returns-4 c =
     let asked = c .before .before .before .before .before .before in
     let a = asked .before .before .before .before .before .before .before .before .before .before .args in
     let m = now (a .middle) in
+    let is : readUnits (recordKind m (a .j)) (recordField m (a .j)) ≡ AboveHalf = cc in
+    let above = flip-above 7 (a .j) (recordKind m (a .j)) (recordField m (a .j)) is in
+    (rw (left-over asked, not-false (asked .used-below .result) (c .before .before .before .before .before .if2 .left), above), refused-not-fine 22 _)
+
+returns-5 : tie.Need-returns-5
+returns-5 c =
+    let asked = c .before .before .before .before .before .before in
+    let a = asked .before .before .before .before .before .before .before .before .before .before .args in
+    let m = now (a .middle) in
     let is : readUnits (recordKind m (a .j)) (recordField m (a .j)) ≡ NoUnits = cc in
-    let bad = units-refused (recordKind m (a .j)) (recordField m (a .j)) is in
+    let bad = flip-bad 7 (a .j) (recordKind m (a .j)) (recordField m (a .j)) is in
     (rw (left-over asked, not-false (asked .used-below .result) (c .before .before .before .before .before .if2 .left), bad), refused-not-fine 7 _)
 
 pub load-gate-spec : {M : Type 1} → statement M
@@ -110,5 +119,8 @@ load-gate-spec =
     (λ c. search needs)
     (λ c. search needs)
     (λ c. search needs)
+    (λ c. search needs)
+    (λ c. search needs)
     returns-3
-    returns-4)
+    returns-4
+    returns-5)

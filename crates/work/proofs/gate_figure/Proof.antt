@@ -1,6 +1,7 @@
 -- `work::gate_figure` meets its contract: the pins that are kept make the gate's word. Assumes nothing.
 use Prim.Native.Nat.{ℕ}
 use mathlib.Core.Path.{ap₂, _∙_}
+use native.Mathlib.Omega.{arith}
 use Rattle.rounding.specs.Rounding.{unitsInOne}
 use Rattle.figure.specs.Steps.{firstPins, pinsWord}
 use Rattle.area.specs.Layout.{table, flip}
@@ -14,7 +15,7 @@ pins-word-requires : tie.Need-pins-word-requires
 pins-word-requires c κs =
     let s = c .before .before .before .before .before .before in
     let e = c .before .before .before .before .split-pins .ensures in
-    ((e .0 .0, rw (c .flip .ensures) (s .pre .0 .figures .flip-fits (s .args .gate) (s .pre .1))), (e .1 .fits, e .0 .1))
+    ((e .0 .0, omega (arith, c .flip .ensures, s .pre .0 .figures .flip-fits (s .args .gate) (s .pre .1))), (e .1 .fits, e .0 .1))
 
 returns : tie.Need-returns
 unfolding gateFigure gateWordFrom
