@@ -51,21 +51,43 @@ static void long_round_of(int b, double best[CALLS][2]) {
     TIME(best[5][b], 1, done(builds[b].by_mask(area, WORDS, listed, 4096, masks[b], G)));
 }
 
+/* the netlists of netlists.h, and the first of them with other flips */
+#define NETLISTS (KINDS + 2)
+static const char *const netlists[2] = {"never flip", "strikes"};
+
+/* Every gate of the image gets kind 0, or kind 2 with a strike chance of 0.5 and twice the chance that it had as the window. */
+static void make_flips(unsigned kind) {
+    for (uint8_t *gate = image; gate < image + 20 * G; gate += 20) {
+        double chance;
+        memcpy(&chance, gate + 12, 8);
+        float strike[2] = {kind == 0 ? 0 : 0.5f, kind == 0 ? 0 : (float)(2 * chance)};
+        gate[1] = (uint8_t)kind;
+        memcpy(gate + 12, strike, 8);
+    }
+}
+
+static const char *make_netlist(int k) {
+    if (k < KINDS) { make_kind(k); return kinds[k]; }
+    make_kind(0);
+    make_flips(k == KINDS ? 0 : 2);
+    return netlists[k - KINDS];
+}
+
 int main(void) {
     double chance = 0.3;
     uint64_t field, kept = seed;
     memcpy(&field, &chance, 8);
     for (int q = 0; q < 4096; q++) weights[q] = 1, listed[q] = next() % (1 << N);
     seed = kept; /* the netlists of speed/calls.c */
-    for (int kind = 0; kind < KINDS; kind++) {
+    for (int k = 0; k < NETLISTS; k++) {
         double best[CALLS][2];
-        make_kind(kind);
+        const char *netlist = make_netlist(k);
         for (int c = 0; c < CALLS; c++) best[c][0] = best[c][1] = 1e18;
-        for (int t = 0; t < 60; t++) for (int k = 0; k < 2; k++) round_of((t + k) % 2, field, best);
-        for (int t = 0; t < 4; t++) for (int k = 0; k < 2; k++) round_of((t + k) % 2, field, best), long_round_of((t + k) % 2, best);
-        for (int c = 0; c < CALLS; c++) printf("%s\t%s\t%.0f\t%.0f\n", calls[c], kinds[kind], best[c][0], best[c][1]);
+        for (int t = 0; t < 60; t++) for (int b = 0; b < 2; b++) round_of((t + b) % 2, field, best);
+        for (int t = 0; t < 4; t++) for (int b = 0; b < 2; b++) round_of((t + b) % 2, field, best), long_round_of((t + b) % 2, best);
+        for (int c = 0; c < CALLS; c++) printf("%s\t%s\t%.0f\t%.0f\n", calls[c], netlist, best[c][0], best[c][1]);
         int same_counts = !memcmp(flips[0], flips[1], sizeof flips[0]) && !memcmp(masks[0], masks[1], sizeof masks[0]);
-        if (!same_counts || memcmp(left[0], left[1], sizeof area) || units[0] != units[1]) printf("differs\t%s\n", kinds[kind]);
+        if (!same_counts || memcmp(left[0], left[1], sizeof area) || units[0] != units[1]) printf("differs\t%s\n", netlist);
     }
     return 0;
 }

@@ -5,6 +5,7 @@ use mathlib.Core.Bool.{cond}
 use mathlib.Core.List.{List, [], _∷_}
 use lib.ListN.{getD, take, drop}
 use lib.Dec.{ltb}
+use Rattle.rounding.specs.Rounding.{unitsInHalf}
 
 -- ---- limits
 
@@ -34,7 +35,7 @@ mostWords = 8264
 
 -- U / 2: no gate flips more often than not
 abbrev pub largestFlip : ℕ
-largestFlip = 536_870_912
+largestFlip = unitsInHalf
 
 -- 2 × U + 1
 abbrev pub largestFigure : ℕ

@@ -14,13 +14,13 @@ use lib.Ieee.Digits.{Equals}
 use lib.Ieee.Bits.{ofBits-fits}
 use lib.Ieee.Positive.{num, den, den-pos}
 use lib.Pow.{pow-add}
-use Rattle.rounding.specs.Rounding.{unitsInOne, toUnits}
+use Rattle.rounding.specs.Rounding.{unitsInOne, unitsInHalf, toUnits}
 use Rattle.rounding.proofs.Laws.{at-most}
 use Rattle.chance.specs.declared.Flip.{Flip}
 use Rattle.chance.specs.declared.Flip.the-variants.{Never, Plain, Strike as Struck}
 use Rattle.chance.specs.declared.FlipRead.the-variants.{Accepted, Refused}
 use Rattle.chance.specs.declared.FlipUnits.the-variants.{Units, AboveHalf, Refused as NoUnits}
-use Rattle.chance.specs.Number.{chanceScale, wholeChance, unitsInHalf, atMostHalf, fromZeroToOne, chanceBits}
+use Rattle.chance.specs.Number.{chanceScale, wholeChance, atMostHalf, fromZeroToOne, chanceBits}
 use Rattle.chance.specs.Flip.{firstHalf, secondHalf, wholeField, inRange, flipOf, flipAccepted, chanceOf, flipChance}
 use Rattle.chance.specs.Flip.{flipUnits, readFlip, unitsIf, readUnits}
 use Rattle.chance.specs.Statements.{PlainExact, StrikeExact, ChanceAtMost, PlainHalf, StrikeHalf, LowUnits}

@@ -12,10 +12,6 @@ chanceScale = 2 ^ 1074
 unfoldable pub wholeChance : ℕ → ℕ → ℕ
 wholeChance n d = n * chanceScale / d
 
--- 0.5 in units
-abbrev pub unitsInHalf : ℕ
-unitsInHalf = 536_870_912
-
 -- whether a chance in 2^-1074 is at most 0.5
 unfoldable pub atMostHalf : ℕ → Bool
 atMostHalf chance = leb (2 * chance) chanceScale

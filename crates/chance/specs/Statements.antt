@@ -7,7 +7,8 @@ use mathlib.Core.Path.{_≡_}
 use lib.Dec.{leb}
 use lib.Ieee.{binary32, binary64, ofBits}
 use lib.Ieee.Digits.{Equals}
-use Rattle.chance.specs.Number.{chanceScale, unitsInHalf, atMostHalf}
+use Rattle.rounding.specs.Rounding.{unitsInHalf}
+use Rattle.chance.specs.Number.{chanceScale, atMostHalf}
 use Rattle.chance.specs.Flip.{firstHalf, secondHalf, wholeField, flipAccepted, flipChance, flipUnits}
 
 -- an accepted plain chance is a whole number of 2^-1074, and exactly its float's value

@@ -13,9 +13,9 @@ use lib.Ieee.{Float, nan, inf, fin, binary64, hid, top, ones, ofFields, ofBits, 
 use lib.Ieee.Exact.{HasValue, odd-sign}
 use lib.Ieee.Digits.{Equals}
 use lib.Ieee.Fits.{down-pos}
-use Rattle.rounding.specs.Rounding.{unitsInOne, roundDiv, toUnits}
+use Rattle.rounding.specs.Rounding.{unitsInOne, unitsInHalf, roundDiv, toUnits}
 use Rattle.rounding.proofs.Laws.{no-units, exact}
-use Rattle.chance.specs.Number.{chanceScale, unitsInHalf, atMostHalf, fromZeroToOne}
+use Rattle.chance.specs.Number.{chanceScale, atMostHalf, fromZeroToOne}
 use Rattle.chance.specs.Flip.{wholeField, inRange, flipOf, flipAccepted, chanceOf, flipChance, flipUnits}
 use Rattle.chance.proofs.Range.{range-of-value}
 use Rattle.chance.proofs.Exact.{scale-pos}

@@ -5,8 +5,8 @@ use mathlib.Core.Bool.{true, false}
 use mathlib.Core.Path.{_≡_}
 use lib.Ieee.{binary64, ofBits}
 use lib.Ieee.Exact.{HasValue}
-use Rattle.rounding.specs.Rounding.{unitsInOne}
-use Rattle.chance.specs.Number.{chanceScale, unitsInHalf, atMostHalf}
+use Rattle.rounding.specs.Rounding.{unitsInOne, unitsInHalf}
+use Rattle.chance.specs.Number.{chanceScale, atMostHalf}
 use Rattle.chance.specs.Flip.{flipAccepted, flipChance, flipUnits}
 use Rattle.flips.specs.Written.{unitsBits, unitsKind, unitsField}
 

@@ -5,7 +5,7 @@ use mathlib.Core.Logic.{by-cases}
 use native.Mathlib.Nat.{sub-add-cancel, mul-le-mul, div-eq-of-lt-le}
 use native.Mathlib.Decide.{decLe}
 use native.Mathlib.Omega.{arith}
-use Rattle.rounding.specs.Rounding.{unitsInOne, roundDiv, blend}
+use Rattle.rounding.specs.Rounding.{unitsInOne, unitsInHalf, roundDiv, blend}
 use Rattle.rounding.proofs.Laws.{without-cases, same-fraction}
 
 -- two figures multiplied
@@ -29,27 +29,24 @@ mean-made n = sym (without-cases n unitsInOne (omega arith)) ∙ halved (n / uni
 
 -- ---- a half goes to the even number, without a division of twice the sum
 
-abbrev pub halfUnit : ℕ
-halfUnit = 536_870_912
-
 abbrev pub quarterUnit : ℕ
 quarterUnit = 268_435_456
 
 -- k and a half, to k or the number above it
-odd-or-even : (n b k : ℕ) → n ≡ k * halfUnit + quarterUnit → b < 2 → (2 * n + (halfUnit - 1) + b) / (2 * halfUnit) ≡ k + b
+odd-or-even : (n b k : ℕ) → n ≡ k * unitsInHalf + quarterUnit → b < 2 → (2 * n + (unitsInHalf - 1) + b) / (2 * unitsInHalf) ≡ k + b
 odd-or-even n b k e less =
     by-cases (decLe b 0)
-    (λ none. div-eq-of-lt-le (2 * halfUnit) (omega arith) (omega arith))
-    (λ some. div-eq-of-lt-le (2 * halfUnit) (omega arith) (omega arith))
+    (λ none. div-eq-of-lt-le (2 * unitsInHalf) (omega arith) (omega arith))
+    (λ some. div-eq-of-lt-le (2 * unitsInHalf) (omega arith) (omega arith))
 
 -- a number that is k and a half, and one that is less than a unit short of it
-at-half : (n k : ℕ) → n ≡ k * halfUnit + quarterUnit → roundDiv n halfUnit ≡ k + k % 2
+at-half : (n k : ℕ) → n ≡ k * unitsInHalf + quarterUnit → roundDiv n unitsInHalf ≡ k + k % 2
 at-half n k e =
-    let parity : n / halfUnit % 2 ≡ k % 2 = omega arith in
-    sym (without-cases n halfUnit (omega arith)) ∙ odd-or-even n (n / halfUnit % 2) k e (omega arith) ∙ ap (λ (b : ℕ). k + b) parity
+    let parity : n / unitsInHalf % 2 ≡ k % 2 = omega arith in
+    sym (without-cases n unitsInHalf (omega arith)) ∙ odd-or-even n (n / unitsInHalf % 2) k e (omega arith) ∙ ap (λ (b : ℕ). k + b) parity
 
-below-it : (n k low : ℕ) → n + low ≡ k * halfUnit + quarterUnit → 0 < low → low < halfUnit → roundDiv n halfUnit ≡ k
-below-it n k low e some less = sym (without-cases n halfUnit (omega arith)) ∙ div-eq-of-lt-le (2 * halfUnit) (omega arith) (omega arith)
+below-it : (n k low : ℕ) → n + low ≡ k * unitsInHalf + quarterUnit → 0 < low → low < unitsInHalf → roundDiv n unitsInHalf ≡ k
+below-it n k low e some less = sym (without-cases n unitsInHalf (omega arith)) ∙ div-eq-of-lt-le (2 * unitsInHalf) (omega arith) (omega arith)
 
 -- a figure and its rest
 module _ (m p : ℕ) (hm : m ≤ unitsInOne) (hp : p ≤ unitsInOne) where
@@ -61,25 +58,25 @@ module _ (m p : ℕ) (hm : m ≤ unitsInOne) (hp : p ≤ unitsInOne) where
         ap (λ (z : ℕ). z * p) (sub-add-cancel {n = unitsInOne} {m = m} hm),
       )
 
-  pub rest-part : m * p ≤ (m + p) * halfUnit
+  pub rest-part : m * p ≤ (m + p) * unitsInHalf
   rest-part = omega (arith, whole)
 
   -- the rest, over U / 2, in the terms of what is taken off
   abbrev rest : ℕ
-  rest = (m + p) * halfUnit - m * p
+  rest = (m + p) * unitsInHalf - m * p
 
   abbrev pub near : ℕ
-  near = m + p - (m * p + quarterUnit) / halfUnit
+  near = m + p - (m * p + quarterUnit) / unitsInHalf
 
-  rest-half : blend unitsInOne m (unitsInOne - m) p ≡ roundDiv rest halfUnit
+  rest-half : blend unitsInOne m (unitsInOne - m) p ≡ roundDiv rest unitsInHalf
   unfolding blend
   rest-half =
-      same-fraction (m * (unitsInOne - p) + (unitsInOne - m) * p) unitsInOne ((m + p) * halfUnit - m * p) halfUnit (omega arith) (omega arith)
+      same-fraction (m * (unitsInOne - p) + (unitsInOne - m) * p) unitsInOne ((m + p) * unitsInHalf - m * p) unitsInHalf (omega arith) (omega arith)
       (omega (arith, whole))
 
   -- what the code works out: the part taken off rounded up at a half, and there one put back where an odd number is left
-  pub rest-even : (m * p + quarterUnit) % halfUnit ≡ 0 → blend unitsInOne m (unitsInOne - m) p ≡ near + near % 2
+  pub rest-even : (m * p + quarterUnit) % unitsInHalf ≡ 0 → blend unitsInOne m (unitsInOne - m) p ≡ near + near % 2
   rest-even none = rest-half ∙ at-half rest near (omega (arith, rest-part))
 
-  pub rest-near : 0 < (m * p + quarterUnit) % halfUnit → blend unitsInOne m (unitsInOne - m) p ≡ near
-  rest-near some = rest-half ∙ below-it rest near ((m * p + quarterUnit) % halfUnit) (omega (arith, rest-part)) some (omega arith)
+  pub rest-near : 0 < (m * p + quarterUnit) % unitsInHalf → blend unitsInOne m (unitsInOne - m) p ≡ near
+  rest-near some = rest-half ∙ below-it rest near ((m * p + quarterUnit) % unitsInHalf) (omega (arith, rest-part)) some (omega arith)

@@ -9,6 +9,10 @@ use lib.Dec.{ltb}
 abbrev pub unitsInOne : ℕ
 unitsInOne = 1_073_741_824
 
+-- U / 2
+abbrev pub unitsInHalf : ℕ
+unitsInHalf = 536_870_912
+
 -- the whole number next to q + r / d, where r is below d: q for less than a half, q + 1 for more, and at a half the even one of the two
 abbrev pub nextTo : ℕ → ℕ → ℕ → ℕ
 nextTo q r d = cond (ltb (2 * r) d) q (cond (ltb d (2 * r)) (q + 1) (q + q % 2))

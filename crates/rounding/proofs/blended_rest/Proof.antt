@@ -3,8 +3,8 @@ use Prim.Native.Nat.{_+_, _*_, _≤_}
 use mathlib.Core.Path.{sym}
 use native.Mathlib.Omega.{arith}
 use borrow.Author.Needs.{needs}
-use Rattle.rounding.specs.Rounding.{unitsInOne}
-use Rattle.rounding.proofs.Means.{product-fits, halfUnit, rest-even, rest-near, rest-part}
+use Rattle.rounding.specs.Rounding.{unitsInOne, unitsInHalf}
+use Rattle.rounding.proofs.Means.{product-fits, rest-even, rest-near, rest-part}
 use Rattle.rounding.proofs.blended_rest.Statement.{statement}
 use Rattle.rounding.proofs.blended_rest.Tie as tie
 
@@ -13,7 +13,7 @@ product : (s : tie.Start) → s .args .figure * s .args .failure ≤ unitsInOne 
 product s = product-fits (s .args .figure) (s .args .failure) (s .pre .0) (s .pre .1)
 
 -- what is taken off is no more than what it is taken from
-part : (s : tie.Start) → s .args .figure * s .args .failure ≤ (s .args .figure + s .args .failure) * halfUnit
+part : (s : tie.Start) → s .args .figure * s .args .failure ≤ (s .args .figure + s .args .failure) * unitsInHalf
 part s = rest-part (s .args .figure) (s .args .failure) (s .pre .0) (s .pre .1)
 
 mul-product : tie.Need-mul-product
