@@ -228,9 +228,9 @@ uint64_t bench_toggle_input(uint32_t *area, size_t area_len, uint32_t input);
  *                         another, the latching window; the two multiplied exactly are the chance
  *
  * Refused with 11 is a float that is not finite, is below 0 or is above 1; minus zero is taken for zero.
- * Refused with 22 is a chance above 0.5, however little, as it stands before rounding: what was meant is
- * most likely one less it. Every other chance is rounded to units once, to the nearest, a half to the
- * even one, and so comes to at most BENCH_FLIP_MAX.
+ * Refused with 22 is a chance above 0.5, by however little, as it stands before rounding; the caller may
+ * have meant 1 minus it. Every other chance is rounded to units once, to the nearest, a half to the even
+ * one, and so comes to at most BENCH_FLIP_MAX.
  *
  * Done: the gate has the new flip; it and the gates that depend on it are worked out again, and so are
  * the reliability and, where the gate is live, the raw flip sum. The words of every other gate are as
