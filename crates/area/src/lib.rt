@@ -1,4 +1,6 @@
 // The work area: where each of its words stands, and the limits of document 01. specs/Layout.antt has the same names; no other crate has the numbers.
+#![tactic(auto)]
+
 ghost use Rattle.std.specs.Prelude.{◌≡◌, ◌+◌, ◌<◌, ◌≤◌, length, get_or, set};
 ghost use Rattle.std.proofs.lemmas.List.Edits.{sets};
 ghost use Rattle.area.specs.Layout as layout;

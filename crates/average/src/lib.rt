@@ -1,4 +1,6 @@
 // The walk over all patterns of the call "average", on an area that can be worked out, and the test of the weights, refusal 12.
+#![tactic(auto)]
+
 ghost use Rattle.std.specs.Prelude.{◌≡◌, ℕ, ◌+◌, ◌*◌, ◌/◌, ◌%◌, ◌^◌, ◌<◌, ◌≤◌, eqb, length, get_or};
 ghost use Rattle.lists.specs.Lists.{sum_below, all_zero};
 ghost use Rattle.refusal.specs.declared.Judgement.TheVariants.{Fine};

@@ -1,4 +1,6 @@
 // The calls of the bench. Each judges its input first: a refused call changes no word.
+#![tactic(auto)]
+
 ghost use Rattle.std.specs.Prelude.{◌≡◌, ℕ, ◌+◌, ◌-◌, ◌/◌, ◌%◌, ◌^◌, ◌≤◌, ◌<◌, List, [], ◌++◌, length, get_or, take, drop};
 ghost use Rattle.refusal.specs.Judgement.{otherwise, unless_refused};
 ghost use Rattle.netlist.specs.Live.{readers, live_gates};

@@ -1,5 +1,7 @@
 // The calls of the bench for C. Each answers 0 where the work was done, else number × 2^32 + place, and then leaves what its pointers name as it was;
 // of two images, the one that is refused stands above the number, from bit 40 on.
+#![tactic(auto)]
+
 ghost use Rattle.std.specs.Prelude.{◌≡◌, length, ◌/◌, ◌%◌};
 ghost use Rattle.refusal.specs.Judgement.{unless_refused};
 ghost use Rattle.flips.specs.Written.{field_bytes};

@@ -1,4 +1,6 @@
 // Reading BLIF: a text, and the image that is written of it.
+#![tactic(auto)]
+
 ghost use Rattle.std.specs.Prelude.{◌≡◌, ◌+◌, ◌<◌, length};
 ghost use Rattle.refusal.specs.Judgement.{unless_refused};
 ghost use Rattle.placing.specs.Placing.{sources_of, Placed};

@@ -1,1 +1,2 @@
 // What a text means: no code; see specs/ and proofs/.
+#![tactic(auto)]

@@ -1,4 +1,6 @@
 // The program blif: reads the BLIF text on standard input and writes its image, or one line that says why it is refused.
+#![tactic(auto)]
+
 ghost use Rattle.std.specs.Prelude.{◌≤◌};
 
 use blif::BlifRead;

@@ -1,1 +1,2 @@
 // The error bound of document 01 for all sizes: statements in specs/, theorems in proofs/. No code.
+#![tactic(auto)]

@@ -1,5 +1,7 @@
 // Compares chance::read_units with vectors that tests/chance_vectors.py works out, read from standard input. A vector has 14 bytes: kind,
 // field, 0 if it is refused, 1 if it is accepted, 2 if its chance is above 0.5, and its units.
+#![tactic(auto)]
+
 ghost use Rattle.std.specs.Prelude.{◌<◌};
 
 use chance::{FlipRead, FlipUnits};

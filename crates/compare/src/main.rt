@@ -1,4 +1,6 @@
 // The program compare: takes the paths of two images, and prints a line for each module, which of them stands higher, and the patterns' counts.
+#![tactic(auto)]
+
 use comparison::{Compared, Counts, Image, Module, Patterns, Verdict};
 use libc::STDOUT_FILENO;
 

@@ -1,4 +1,6 @@
 // Which of two modules stands higher: the average reliability of each, how far it may be from the exact one, and whether that decides.
+#![tactic(auto)]
+
 ghost use Rattle.std.specs.Prelude.{◌≡◌, Bool, ℕ, ◌+◌, ◌^◌, ◌<◌, ◌≤◌, length, get_or};
 ghost use Rattle.lists.specs.Lists.{sum_below};
 ghost use Rattle.refusal.specs.declared.Judgement.TheVariants.{Fine};
@@ -17,7 +19,7 @@ ghost use Rattle.comparison.specs.Images.{opened_words, figures_of, module_of, e
 use bench::Opened;
 
 // What is known of a module: its counts and live gates, its average in units, and the error of its figures in half units.
-#[derive(Drop)]
+#[derive(Clone, Copy)]
 pub struct Module {
     pub inputs: u32,
     pub gates: u32,
@@ -36,7 +38,7 @@ pub enum Verdict {
 }
 
 // Patterns by their verdicts: the first is surely higher there, the second is, or the errors leave it open.
-#[derive(Drop)]
+#[derive(Clone, Copy)]
 pub struct Counts {
     pub first: u32,
     pub second: u32,

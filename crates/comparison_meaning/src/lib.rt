@@ -1,1 +1,2 @@
 // What a comparison means: no code; see specs/ and proofs/.
+#![tactic(auto)]

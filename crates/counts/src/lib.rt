@@ -1,4 +1,6 @@
 // In how many listed patterns a flip of each gate alone is seen at an output, 64 patterns in one word: by the flip itself, and by masks.
+#![tactic(auto)]
+
 ghost use Rattle.std.specs.Prelude.{◌≡◌, cond, [], ◌++◌, ℕ, ◌+◌, ◌<◌, ◌≤◌, min, max, eqb, ltb, length, get_or, set, drop};
 ghost use Rattle.std.specs.Int.Count.{ones};
 ghost use Rattle.netlist.specs.Seen.{differ, seen_counts};

@@ -1,4 +1,6 @@
 // Cover lines, and the tables of gates.
+#![tactic(auto)]
+
 ghost use Rattle.std.specs.Prelude.{◌≡◌, ◌+◌, ◌*◌, ◌^◌, ◌<◌, ◌≤◌, length, get_or};
 ghost use Rattle.figure.specs.Figure.{bit_of};
 ghost use Rattle.area.specs.Layout.{most_pins};

@@ -1,4 +1,6 @@
 // A figure and its error as decimal fractions with ten decimals, for reading.
+#![tactic(auto)]
+
 ghost use Rattle.std.specs.Prelude.{ℕ, ◌+◌, ◌≤◌, ◌<◌, ◌≡◌, length, get_or};
 ghost use Rattle.rounding.specs.Rounding.{units_in_one};
 ghost use Rattle.decimals.specs.Decimals.{parts_in_one, shown_parts, shown_error, gap, decimal};

@@ -1,5 +1,7 @@
 // How far figures can be from the exact ones, in half units (bound/specs/Sharp.antt): the netlist stands in the words of an area, and its kinds of
 // flips in the image that it came from, since no word keeps them.
+#![tactic(auto)]
+
 ghost use Rattle.std.specs.Prelude.{◌≡◌, cond, [], ℕ, ◌+◌, ◌<◌, ◌≤◌, eqb, length, get_or, take, drop};
 ghost use Rattle.netlist.specs.Live.{if_live, readers};
 ghost use Rattle.bound.specs.Sharp.{further_gates, error_halves};

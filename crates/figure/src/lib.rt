@@ -3,6 +3,8 @@
 // A source is read as one word, 2 × failure + right value. The fold is written out for each pin count, with every count in a call a
 // constant, so that the compiler unrolls the steps and keeps the sixteen values in registers. A pin that cannot fail need not be
 // folded: it only moves the index that the others start from.
+#![tactic(auto)]
+
 ghost use Rattle.std.specs.Prelude.{◌≡◌, [], map, ℕ, ◌+◌, ◌*◌, ◌/◌, ◌%◌, ◌^◌, ◌<◌, ◌≤◌, get_or, take};
 ghost use Rattle.rounding.specs.Rounding.{units_in_one, blend};
 ghost use Rattle.figure.specs.Figure.{failure_of, fold_step, gate_step, output_step};

@@ -1,4 +1,6 @@
 // The eight bytes of a flip field, and a flip in units as a kind and such bytes.
+#![tactic(auto)]
+
 ghost use Rattle.std.specs.Prelude.{◌≡◌, ◌≤◌, ◌%◌};
 ghost use Rattle.rounding.specs.Rounding.{units_in_one};
 ghost use Rattle.flips.specs.Written.{field_bytes, units_bits, units_kind, units_field};

@@ -1,5 +1,7 @@
 // A gate's failures in a row of 32 patterns, by the pins that may fail. Right values stand in words of 64 patterns; entry l of a row goes with lane
 // shift + l, so that a word has two rows.
+#![tactic(auto)]
+
 ghost use Rattle.std.specs.Prelude.{◌≡◌, ℕ, suc, ◌+◌, ◌≤◌, ◌<◌, length};
 ghost use Rattle.rounding.specs.Rounding.{units_in_one};
 ghost use Rattle.area.specs.Layout as layout;

@@ -1,4 +1,6 @@
 // Reading a netlist image: refusals 1 to 8 of document 01 and 22 of document 02, and the words of a work area whose figures are not worked out.
+#![tactic(auto)]
+
 ghost use Rattle.std.specs.Prelude.{◌≡◌, ◌+◌, ◌<◌, ◌≤◌, length};
 ghost use Rattle.std.proofs.lemmas.List.Edits.{sets};
 ghost use Rattle.refusal.specs.declared.Judgement.TheVariants.{Fine};

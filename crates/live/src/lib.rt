@@ -1,6 +1,8 @@
 // Live readers, counted on the words of an area: the number of live gates, their raw flip sum, and refusal 9.
 //
 // `readers` has an entry for each source, inputs too.
+#![tactic(auto)]
+
 ghost use Rattle.std.specs.Prelude.{◌≡◌, [], ℕ, ◌+◌, ◌<◌, ◌≤◌, length, get_or, take, drop};
 ghost use Rattle.netlist.specs.Live.{if_live, readers};
 ghost use Rattle.area.specs.Layout as layout;

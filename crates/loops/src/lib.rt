@@ -1,4 +1,6 @@
 // Gates that depend on themselves.
+#![tactic(auto)]
+
 ghost use Rattle.std.specs.Prelude.{◌≡◌, [], ◌∷◌, ℕ, ◌+◌, ◌-◌, ◌*◌, ◌<◌, ◌≤◌, length, get_or};
 ghost use Rattle.area.specs.Layout.{most_pins, most_inputs, most_gates};
 ghost use Rattle.refusal.specs.declared.Judgement.TheVariants.{Fine};

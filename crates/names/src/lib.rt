@@ -1,4 +1,6 @@
 // Names, and the words of a text as slice parts.
+#![tactic(auto)]
+
 ghost use Rattle.std.specs.Prelude.{◌≡◌, false, ℕ, ◌<◌, ◌≤◌, length, get_or, drop};
 ghost use Rattle.texts.specs.Words.{word_of};
 ghost use Rattle.names.specs.Names.{same, name_byte, is_name, name_at, before};

@@ -1,4 +1,6 @@
 // The reliability under every pattern, entry q for pattern q: the walk of the call "average", whose rows are stored here and not added up.
+#![tactic(auto)]
+
 ghost use Rattle.std.specs.Prelude.{◌≡◌, ◌+◌, ◌*◌, ◌%◌, ◌^◌, ◌<◌, ◌≤◌, length};
 ghost use Rattle.std.proofs.lemmas.List.Edits.{sets};
 ghost use Rattle.area.specs.Layout as layout;

@@ -1,4 +1,6 @@
 // The order in which the gates of a text are placed.
+#![tactic(auto)]
+
 ghost use Rattle.std.specs.Prelude.{◌≡◌, ℕ, ◌+◌, ◌-◌, ◌*◌, ◌<◌, ◌≤◌, length, get_or};
 ghost use Rattle.area.specs.Layout.{most_pins, most_inputs, most_gates};
 ghost use Rattle.placing.specs.Placing.{placed_source, all_placed, ready, passed, entries, sources_of, left, Kept, Tables, Placed};

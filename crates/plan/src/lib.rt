@@ -2,6 +2,8 @@
 //
 // A row has 32 patterns, and its number is its first pattern over 32: bit k of it is the value of input 5 + k, and the first five inputs have the same
 // values in every row.
+#![tactic(auto)]
+
 ghost use Rattle.std.specs.Prelude.{◌≡◌, ℕ, ◌+◌, ◌<◌, ◌≤◌, get_or};
 ghost use Rattle.area.specs.Layout as layout;
 ghost use Rattle.area.specs.Rules.{NetSound};

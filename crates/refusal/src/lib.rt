@@ -1,4 +1,6 @@
 // Refusals: what is judged of an image, an area or a call's arguments, and the numbers of document 01 and of document 02, cards 1, 4, 7 and 8.
+#![tactic(auto)]
+
 ghost use Rattle.std.specs.Prelude.{◌≡◌, ◌<◌, length};
 ghost use Rattle.refusal.specs.Judgement.{lowest, word_judgement};
 

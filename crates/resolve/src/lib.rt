@@ -1,4 +1,6 @@
 // The names of a text looked up: defined twice, undefined, and the sources of its gates by number.
+#![tactic(auto)]
+
 ghost use Rattle.std.specs.Prelude.{◌≡◌, List, ℕ, ◌+◌, ◌-◌, ◌*◌, ◌<◌, ◌≤◌, length, get_or, set};
 ghost use Rattle.refusal.specs.declared.Judgement.TheVariants.{Fine};
 ghost use Rattle.refusal.specs.Judgement.{lowest};

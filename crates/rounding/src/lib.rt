@@ -1,5 +1,7 @@
 // Rounding: a division to the nearest whole number, and the one rounding step of the figures, the mean of two figures. Every formula that rounds stands
 // here.
+#![tactic(auto)]
+
 ghost use Rattle.std.specs.Prelude.{◌≡◌, ◌+◌, ◌-◌, ◌*◌, ◌≤◌, ◌<◌};
 ghost use Rattle.rounding.specs.Rounding.{units_in_one, round_div, blend};
 

@@ -1,4 +1,6 @@
 // Rows: the failures of a source under 32 patterns. A row is worked out as a whole, in loops over its entries of which the compiler makes vector code.
+#![tactic(auto)]
+
 ghost use Rattle.std.specs.Prelude.{◌≡◌, ℕ, ◌≤◌, ◌<◌, length, get_or};
 ghost use Rattle.rounding.specs.Rounding.{units_in_one, blend};
 ghost use Rattle.figure.specs.Figure.{gate_step, output_step};

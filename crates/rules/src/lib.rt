@@ -1,4 +1,6 @@
 // Rules 5, 6, 13 and 14 of document 01: whether a gate and a work area are well-formed, and with which number an area is refused.
+#![tactic(auto)]
+
 ghost use Rattle.std.specs.Prelude.{◌&&◌, ◌≡◌, ◌+◌, ◌-◌, ◌^◌, ◌<◌, ◌≤◌, length, get_or, take, drop, ltb};
 ghost use Rattle.lists.specs.Lists.{all_zero, all_below};
 ghost use Rattle.refusal.specs.Judgement.{refuse_unless};

@@ -1,6 +1,8 @@
 // The figures of all sets of suppositions, on the words of an area: each shared gate is supposed right or wrong, and its readers see a failure of 0 or U.
 //
 // The walk goes on from each shared gate for both suppositions, so that what stands before it is worked out once; only gates with a mark are walked.
+#![tactic(auto)]
+
 ghost use Rattle.std.specs.Prelude.{◌≡◌, false, ℕ, ◌+◌, ◌≤◌, ◌<◌, length, get_or, replicate};
 ghost use Rattle.suppose.specs.Suppose.{shared_from};
 ghost use Rattle.area.specs.Layout as layout;

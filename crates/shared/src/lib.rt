@@ -1,5 +1,7 @@
 // The call "shared reliability": the reliability of an image whose gates may be shared, under one pattern. No area is lent; the netlist stands in words of
 // the call's own.
+#![tactic(auto)]
+
 ghost use Rattle.std.specs.Prelude.{◌≡◌, ◌%◌, ◌^◌, ◌≤◌};
 ghost use Rattle.area.specs.Layout as layout;
 ghost use Rattle.area.specs.Rules.{Workable};

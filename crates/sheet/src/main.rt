@@ -1,4 +1,6 @@
 // The program sheet: opens the image on standard input, and prints the counts, the reliability under each pattern and the average.
+#![tactic(auto)]
+
 ghost use Rattle.std.specs.Prelude.{◌≤◌, ◌≡◌, length};
 ghost use Rattle.area.specs.Layout.{most_inputs, most_patterns, head_words};
 

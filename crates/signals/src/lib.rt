@@ -1,4 +1,6 @@
 // 64 patterns in one word: bit l of a source's word is its value under pattern l of a block. A gate is worked out for all of them at once.
+#![tactic(auto)]
+
 ghost use Rattle.std.specs.Prelude.{◌≡◌, cond, [], ◌∷◌, map, ℕ, ◌+◌, ◌/◌, ◌^◌, ◌<◌, ◌≤◌, length, get_or};
 ghost use Rattle.figure.specs.Figure as figures;
 ghost use Rattle.figure.specs.Figure.{is_odd};

@@ -1,4 +1,6 @@
 // The statements of a text: what a line is, and whether it fits (refusal 18).
+#![tactic(auto)]
+
 ghost use Rattle.std.specs.Prelude.{◌≡◌, ◌+◌, ◌-◌, ◌<◌, ◌≤◌, length, get_or, drop};
 ghost use Rattle.statements.specs.Lines.{Places, bytes_from, alike, lines_of};
 ghost use Rattle.statements.specs.Fit.{keyword_of, all_names, value_of, row_byte, is_row, after_model, after_list, after_gate, after_end};
@@ -19,7 +21,7 @@ pub enum Keyword {
 }
 
 // What may follow: before `.model`; inputs, outputs and gates; a cover's lines and gates; nothing. `ending` is 2 before a cover's first line.
-#[derive(Drop)]
+#[derive(Clone, Copy)]
 pub enum Phase {
     Before,
     Heading,

@@ -1,4 +1,6 @@
 // The words of a text and their lines.
+#![tactic(auto)]
+
 ghost use Rattle.std.specs.Prelude.{◌≡◌, ℕ, ◌+◌, ◌<◌, ◌≤◌, true, false, List, length, get_or, drop};
 ghost use Rattle.texts.specs.Words.{after, outside, step, in_word, begins, word_of, Tables, Read, Noted, most_bytes, most_words};
 
@@ -8,7 +10,7 @@ pub const MOST_BYTES: usize = 32_768;
 pub const MOST_WORDS: usize = 16_384;
 
 // Where a byte stands, by what was read before it: between words, in a word, in a comment, or after a joining backslash.
-#[derive(Drop)]
+#[derive(Clone, Copy)]
 pub enum Place {
     Gap,
     Inside,
@@ -17,7 +19,7 @@ pub enum Place {
 }
 
 // `here` is the line of a byte, `line` the first line of those joined to it.
-#[derive(Drop)]
+#[derive(Clone, Copy)]
 pub struct State {
     pub place: Place,
     pub here: usize,

@@ -1,6 +1,8 @@
 // Working out on a work area: reading a source, working out gates, dependents and the reliability. Every function here asks for an area whose netlist
 // and figures keep rule 14 (`Workable`); the calls judge the area first. Words 5 to 7, the raw flip sum and the
 // reserved word, are neither read nor written here.
+#![tactic(auto)]
+
 ghost use Rattle.std.specs.Prelude.{◌≡◌, map, ℕ, ◌+◌, ◌-◌, ◌/◌, ◌<◌, ◌≤◌, get_or};
 ghost use Rattle.rounding.specs.Rounding.{units_in_one};
 ghost use Rattle.figure.specs.Steps.{first_pins, Split};

@@ -1,4 +1,6 @@
 // The image of a work area, written into bytes: no heading, and flips as never or as the chance that has just these units.
+#![tactic(auto)]
+
 ghost use Rattle.std.specs.Prelude.{◌≡◌, ◌+◌, ◌*◌, ◌<◌, ◌≤◌, length};
 ghost use Rattle.std.proofs.lemmas.List.Edits.{sets};
 ghost use Rattle.area.specs.Layout as layout;

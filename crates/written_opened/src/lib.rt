@@ -1,1 +1,2 @@
 // What opening a written image gives: no code; see specs/ and proofs/.
+#![tactic(auto)]
