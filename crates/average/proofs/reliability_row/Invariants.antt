@@ -1,0 +1,18 @@
+use Prim.Native.Nat.{ℕ, ◌-◌, ◌≤◌, ◌<◌}
+use mathlib.Core.Path.{◌≡◌}
+use lib.ListN.{get_or, drop}
+use Rattle.area.specs.Figures.{product_from}
+use Rattle.area.specs.Layout.{output_words}
+use Rattle.rounding.specs.Rounding.{units_in_one}
+use Rattle.rows.specs.Rows.{row_length, RowFits}
+use Rattle.average.specs.Blocks.{row_word}
+use Rattle.average.proofs.reliability_row.Given as goal
+
+abbrev pub invariant-loop-k : goal.invariant-loop-k
+invariant-loop-k l =
+    (l.k ≤ l.count) × RowFits l.row
+    × ((l : ℕ) → l < row_length
+    → product_from (row_word l.rows l) (get_or l.row l 0) (drop l.k (output_words l.area)) ≡ product_from (row_word l.rows l) units_in_one (output_words l.area))
+
+abbrev pub decreases-loop-k : goal.decreases-loop-k
+decreases-loop-k l = l.count - l.k

@@ -1,0 +1,145 @@
+-- `bench::set_known_flip` meets its contract. Assumes nothing.
+use Prim.Native.Nat.{ℕ, ◌+◌, ◌*◌, ◌≤◌, ◌<◌}
+use mathlib.Core.List.{List, []}
+use mathlib.Core.Path.{◌≡◌, refl, sym, ap, ap₂, subst, ◌∙◌}
+use native.Mathlib.Nat.{mul-le-mul_right}
+use native.Mathlib.Omega.{arith}
+use Rattle.refusal.specs.declared.Judgement.TheVariants.{Fine, Refused}
+use Rattle.refusal.proofs.Laws.{otherwise-second}
+use Rattle.chance.specs.Flip.{flip_units}
+use Rattle.netlist.specs.Live.{if_live, readers}
+use Rattle.area.specs.Layout.{most_gates, largest_flip, inputs, gates, outputs, flip}
+use Rattle.area.specs.Rules.{NetSound, Sound}
+use Rattle.area.specs.Net.{net_of}
+use Rattle.area.specs.Sum.{live_flip, flip_sum, stored_sum, with_sum}
+use Rattle.area.proofs.Sum.{few-units, sum-has}
+use Rattle.work.specs.Work.{set_words}
+use Rattle.work.proofs.Frame.{same_set}
+use Rattle.work.proofs.Sound.{set_sum}
+use Rattle.image.specs.Refusals.{flip_refusal}
+use Rattle.image.proofs.Flips.{flip-read, flip-above, flip-bad}
+use Rattle.calls.specs.Judgements.{set_flip, read_gate, flip_judgement, lent_judgement}
+use Rattle.calls.specs.Calls.{left}
+use Rattle.calls.proofs.Judgements.{lent-fine, gate-fine, set-after-gate}
+use Rattle.bench.specs.declared.FlipSet.TheVariants.{Refused as SetRefused}
+use Rattle.bench.specs.Answers.{flip_set}
+use Rattle.bench.proofs.set_known_flip.Goals.{After-index-in-Units, After-set_units, Start}
+use Rattle.bench.proofs.set_known_flip.Goals as goal
+
+-- the area keeps rule 14, and the gate is there
+passed : (s : Start) → Sound s.args.area.now
+passed s = (lent-fine s.args.area.now (read_gate s.args.gate) s.requires.gate_value).0
+
+there : (s : Start) → s.args.gate < gates s.args.area.now
+there s =
+    let ws = s.args.area.now in
+    gate-fine (inputs ws) (gates ws) (outputs ws) s.args.gate (lent-fine ws (read_gate s.args.gate) s.requires.gate_value).1
+
+pub flip-old-requires : goal.flip-old-requires
+flip-old-requires c =
+    omega (arith, c.index.ensures, there (goal.at.flip-old-requires c).Start, (passed (goal.at.flip-old-requires c).Start).workable.net.long)
+
+-- the flip is accepted
+module _ (c : After-index-in-Units) where
+  abbrev ws : List ℕ
+  ws = c.args.area.now
+
+  abbrev g : ℕ
+  g = c.args.gate
+
+  abbrev units : ℕ
+  units = c.in-Units.units
+
+  accepted : (flip_refusal 11 g c.args.kind c.args.field ≡ Fine)
+      × (flip_units c.args.kind c.args.field ≡ units) × (units ≤ largest_flip)
+  accepted =
+      flip-read 11 g c.args.kind c.args.field units
+      (sym c.read_units.ensures
+      ∙ c.in-Units.is)
+
+  net : NetSound ws
+  net = (passed c.before.before.before.before.before.before.before.before.before).workable.net
+
+  -- what setting it leaves, but for the sum
+  abbrev worked : List ℕ
+  worked = set_words ws g units
+
+  -- the flip that it had, and what that added to the sum
+  old-is : c.flip-old.result ≡ flip ws g
+  old-is = c.flip-old.ensures ∙ ap (flip ws) c.index.ensures
+
+  had : if_live c.args.live c.flip-old.result ≡ live_flip ws g
+  had = ap₂ if_live c.requires.live_value.0 old-is
+
+  enough : live_flip ws g ≤ c.args.sum
+  enough = subst (λ (sum : ℕ). live_flip ws g ≤ sum) (sym c.requires.live_value.1) (sum-has ws g (there c.before.before.before.before.before.before.before.before.before))
+
+  few : c.args.sum ≤ most_gates * largest_flip
+  few =
+      omega (
+        arith,
+        c.requires.live_value.1,
+        few-units ws largest_flip (passed c.before.before.before.before.before.before.before.before.before).workable.figures.flip_fits,
+        mul-le-mul_right largest_flip net.gates_fit,
+      )
+
+pub set_units-requires : goal.set_units-requires
+set_units-requires c = record { workable = (passed (goal.at.set_units-requires c).Start).workable; gate_bound = omega (arith, c.index-in-Units.ensures, there (goal.at.set_units-requires c).Start); units_le_largest_flip = (accepted c).2 }
+
+pub changed_sum-requires : goal.changed_sum-requires
+changed_sum-requires c =
+    let there = (goal.at.changed_sum-requires c).After-index-in-Units in
+    (omega (arith, had there, enough there), omega (arith, few there, (accepted there).2))
+
+-- what the flip is set in
+set_is : (c : After-set_units) → c.set_units.new.area ≡ worked c.before
+set_is c = c.set_units.ensures ∙ ap (λ (k : ℕ). set_words (ws c.before) k (units c.before)) c.index-in-Units.ensures
+
+pub store_sum-requires : goal.store_sum-requires
+store_sum-requires c =
+    let past = (goal.at.store_sum-requires c).After-index-in-Units in
+    rw (set_is (goal.at.store_sum-requires c).After-set_units) (omega (arith, (same_set (ws past) (g past) (units past) (there (goal.at.store_sum-requires c).Start)).size, (net past).long))
+
+pub returns-in-Units : goal.returns-in-Units
+unfolding with_sum
+returns-in-Units c =
+    let past = (goal.at.returns-in-Units c).After-index-in-Units in
+    let a = c.args in
+    let judged =
+    set-after-gate (ws past) a.gate a.kind a.field
+    ∙ otherwise-second (lent_judgement (ws past) (read_gate a.gate)) (flip_judgement a.gate a.kind a.field) c.requires.gate_value
+    ∙ (accepted past).0 in
+    let has : if_live a.live (units past) ≡ if_live (readers (net_of (ws past) [] []) (inputs (ws past) + g past)) (units past)
+    = ap (λ (r : ℕ). if_live r (units past)) c.requires.live_value.0 in
+    let sum : c.changed_sum.result ≡ flip_sum (worked past)
+    = omega (
+      arith,
+      c.changed_sum.ensures,
+      had past,
+      has,
+      c.requires.live_value.1,
+      set_sum (ws past) (g past) (units past) (there (goal.at.returns-in-Units c).Start) (net past),
+    ) in
+    let flips = ap (set_words (ws past) (g past)) (sym (accepted past).1) in record { value = rw (accepted past).0 refl; area_after = rw judged (c.store_sum.ensures ∙ ap₂ stored_sum (set_is (goal.at.returns-in-Units c).After-set_units ∙ flips) (sum ∙ ap flip_sum flips)) }
+
+-- a flip that is refused leaves every word
+left_alone : (s : Start) (number : ℕ) →
+    let a = s.args in
+    flip_refusal 11 a.gate a.kind a.field ≡ Refused number a.gate
+    → (SetRefused number a.gate ≡ flip_set (flip_judgement a.gate a.kind a.field))
+    × (a.area.now ≡ left a.area.now (set_flip a.gate a.kind a.field))
+left_alone s number u =
+    let a = s.args in
+    let judged =
+    set-after-gate a.area.now a.gate a.kind a.field
+    ∙ otherwise-second (lent_judgement a.area.now (read_gate a.gate)) (flip_judgement a.gate a.kind a.field) s.requires.gate_value
+    ∙ u in
+    (rw u refl, rw judged refl)
+
+pub returns-in-AboveHalf : goal.returns-in-AboveHalf
+returns-in-AboveHalf c =
+    let a = c.args in let all = left_alone (goal.at.returns-in-AboveHalf c).Start 22 (flip-above 11 a.gate a.kind a.field (sym c.read_units.ensures ∙ c.in-AboveHalf.is)) in record { value = all.0; area_after = all.1 }
+
+pub returns-in-Refused : goal.returns-in-Refused
+returns-in-Refused c =
+    let a = c.args in let all = left_alone (goal.at.returns-in-Refused c).Start 11 (flip-bad 11 a.gate a.kind a.field (sym c.read_units.ensures ∙ c.in-Refused.is)) in record { value = all.0; area_after = all.1 }

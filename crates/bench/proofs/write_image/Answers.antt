@@ -1,0 +1,46 @@
+-- `bench::write_image` meets its contract. Assumes nothing.
+use Prim.Native.Nat.{◌≤◌}
+use mathlib.Core.Path.{◌≡◌, refl, sym, ◌∙◌}
+use lib.ListN.{length}
+use Rattle.refusal.specs.declared.Judgement.TheVariants.{Fine}
+use Rattle.area.specs.Layout.{inputs, gates, outputs}
+use Rattle.area.specs.Rules.{Sound}
+use Rattle.calls.specs.Judgements.{Call, write_image, judgement}
+use Rattle.calls.proofs.Judgements.{lent-fine, write-fine}
+use Rattle.written.specs.Image.{area_image_length}
+use Rattle.written.specs.Call.{image_left}
+use Rattle.bench.proofs.write_image.Goals.{After-judge_write}
+use Rattle.bench.proofs.write_image.Goals as goal
+
+module _ (c : After-judge_write) where
+  abbrev asked : Call
+  asked = write_image (length c.args.image.now)
+
+  judged : c.judge_write.result ≡ judgement c.args.area.now asked
+  judged = c.judge_write.ensures
+
+  passed : judgement c.args.area.now asked ≡ Fine
+      → Sound c.args.area.now × (area_image_length c.args.area.now ≤ length c.args.image.now)
+  passed e =
+      let ws = c.args.area.now in
+      let p = lent-fine ws asked e in
+      (p.0, write-fine (inputs ws) (gates ws) (outputs ws) (length c.args.image.now) p.1)
+
+pub write_image-requires : goal.write_image-requires
+write_image-requires c =
+    let p = passed (goal.at.write_image-requires c).After-judge_write (sym (judged (goal.at.write_image-requires c).After-judge_write) ∙ c.in-Fine.is) in
+    (p.0.workable, p.1)
+
+pub image_length-requires : goal.image_length-requires
+image_length-requires c =
+    (passed (goal.at.image_length-requires c).After-judge_write (sym (judged (goal.at.image_length-requires c).After-judge_write) ∙ c.in-Fine.is)).0.workable
+
+pub returns-in-Fine : goal.returns-in-Fine
+unfolding image_left
+returns-in-Fine c =
+    let e = sym (judged (goal.at.returns-in-Fine c).After-judge_write) ∙ c.in-Fine.is in record { value = rw (e, c.image_length.ensures.0) refl; image_after = rw e c.write_image.ensures }
+
+pub returns-in-Refused : goal.returns-in-Refused
+unfolding image_left
+returns-in-Refused c =
+    let e = sym (judged (goal.at.returns-in-Refused c).After-judge_write) ∙ c.in-Refused.is in record { value = rw e refl; image_after = rw e refl }

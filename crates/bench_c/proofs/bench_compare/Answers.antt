@@ -1,0 +1,13 @@
+-- `bench_c::bench_compare` meets its contract. Assumes nothing.
+use mathlib.Core.Path.{refl, sym, ap, ◌∙◌}
+use Rattle.bench_c.specs.Comparing.{result_words}
+use Rattle.bench_c.proofs.bench_compare.Goals as goal
+
+pub returns-in-Done : goal.returns-in-Done
+returns-in-Done c =
+    let e = sym c.compare-answer.ensures ∙ c.in-Done.is in
+    let known = c.answer-1.given.0 in let all = rw e (refl, c.result_words.ensures ∙ ap (result_words known.0 known.1.0 known.1.1.0) c.pattern_counts.ensures) in record { value = all.0; res_after = all.1 }
+
+pub returns-in-Refused : goal.returns-in-Refused
+returns-in-Refused c =
+    let e = sym c.compare-answer.ensures ∙ c.in-Refused.is in let all = rw e (c.refused_image.ensures, refl) in record { value = all.0; res_after = all.1 }

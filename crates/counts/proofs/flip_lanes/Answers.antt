@@ -1,0 +1,39 @@
+-- `counts::flip_lanes` meets its contract: the flip is followed, the outputs are looked at, and the changes cleared. Assumes nothing.
+use mathlib.Core.Path.{◌≡◌}
+use Prim.Native.Nat.{◌+◌}
+use native.Mathlib.Omega.{arith}
+use lib.ListN.{get_or, set}
+use lib.Seq.{get_or-set_same}
+use Rattle.area.specs.Layout as layout
+use Rattle.area.proofs.Words.{few-sources}
+use Rattle.counts.proofs.Windows.{follow-first}
+use Rattle.counts.proofs.flip_lanes.Goals as goal
+
+pub follow-stop-requires : goal.follow-stop-requires
+follow-stop-requires c =
+    let at-inputs = c.inputs-inputs in
+    let at-larger = c.larger in
+    let a = c.args in let all = rw (at-larger.ensures, c.larger-2.ensures, at-inputs.ensures) (
+      c.requires.net_sound,
+      follow-first a.area.now a.words.now c.requires.net_sound.0 a.gate a.first.now a.end.now c.requires.net_sound.2 c.requires.gate_bound.0
+          a.changed.now a.by c.requires.gate_bound.1,
+    ) in record { net_sound = all.0; following = all.1 }
+
+pub clear-requires : goal.clear-requires
+clear-requires c =
+    let at-inputs = c.inputs-inputs in
+    let at-follow = c.follow-stop in
+    let ws = c.args.area.now in
+    let f = at-follow.ensures in let all = rw at-inputs.ensures
+    ((f.0.long, omega (arith, f.1.0, few-sources ws c.requires.net_sound.0)), (f.0.before, f.1.1)) in record { changed_len = all.0; by_index = all.1; by_index_2 = all.2 }
+
+pub returns : goal.returns
+returns c =
+    let at-inputs = c.inputs-inputs in
+    let at-follow = c.follow-stop in
+    let a = c.args in
+    let ws = a.area.now in
+    let f = at-follow.ensures.flipped in
+    let stored : get_or (set a.changed.now (layout.inputs ws + a.gate) a.by) (layout.inputs ws + a.gate) 0 ≡ a.by
+    = get_or-set_same a.changed.now (layout.inputs ws + a.gate) a.by 0
+    (omega (arith, c.requires.gate_bound.1.long, few-sources ws c.requires.net_sound.0, c.requires.gate_bound.0)) in record { seen_in = record { changed = at-follow.new.0; flipped = rw stored at (rw at-inputs.ensures at f); seen = c.output_lanes-seen.ensures }; unchanged = c.clear.ensures }

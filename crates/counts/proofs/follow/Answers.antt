@@ -1,0 +1,37 @@
+-- `counts::follow` meets its contract: the window is followed until it is empty. Assumes nothing.
+use Prim.Native.Nat.{◌-◌}
+use mathlib.Core.Path.{refl, ◌∙◌}
+use native.Mathlib.Omega.{arith}
+use Rattle.counts.proofs.Windows.{followed}
+use Rattle.counts.proofs.follow.Goals as goal
+
+pub loop-window-init : goal.loop-window-init
+loop-window-init c = (refl, c.requires.following, refl)
+
+pub follow_gate-window-requires : goal.follow_gate-window-requires
+follow_gate-window-requires c =
+    let l = c.loop-window in record { net_sound = c.requires.net_sound; gate_lt_stop = c.loop-window-test.true; following = l.invariant.1 }
+
+pub loop-window-smaller : goal.loop-window-smaller
+loop-window-smaller c =
+    let l = c.loop-window in
+    omega (arith, c.follow_gate-window.ensures.flipped_value.1, c.loop-window-test.true, l.invariant.1.after.2)
+
+pub loop-window-preserved : goal.loop-window-preserved
+loop-window-preserved c =
+    let l = c.loop-window in
+    let learnt = c.follow_gate-window.ensures in
+    let same = l.invariant.0 in (
+      learnt.0.0 ∙ same,
+      learnt.1.0,
+      rw same at learnt.1.1 ∙ l.invariant.2,
+    )
+
+pub returns : goal.returns
+returns c =
+    let l = c.loop-window in
+    let a = c.args in
+    let ws = a.area.now in
+    let f = l.invariant.1 in
+    let w = l.window in
+    let all = followed ws a.words.now c.requires.net_sound.0 w.flipped w.gate w.stop l.changed (omega (arith, c.loop-window-test.false)) f in record { flipped = rw (← l.invariant.2) (rw l.invariant.0 at all); upper_bound = (f.after.2, f.stopped) }

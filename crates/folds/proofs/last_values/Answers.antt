@@ -1,0 +1,53 @@
+-- `folds::last_values` meets its contract. Assumes nothing.
+use Prim.Native.Nat.{◌<◌}
+use mathlib.Core.Path.{◌≡◌, ◌∙◌}
+use native.Mathlib.Numerals.{add-one}
+use native.Mathlib.Omega.{arith}
+use Rattle.area.specs.Layout.{most_pins, pin_count}
+use Rattle.folds.proofs.Last.{single-last}
+use Rattle.folds.proofs.last_values.Goals as goal
+
+pub last_single-requires : goal.last_single-requires
+last_single-requires c = record { rows_ready = c.requires.rows_ready; number_bound = (omega (arith, c.requires.inputs_below.0.1, c.requires.inputs_below.0.2), c.requires.inputs_below.1) }
+
+pub returns-then-lowest-end : goal.returns-then-lowest-end
+returns-then-lowest-end c =
+    let a = c.args in
+    let used : a.lowest < pin_count a.area.now a.gate = omega (arith, c.requires.inputs_below.0.1, c.requires.inputs_below.0.2) in
+    rw (← c.if-lowest-end.true, add-one a.lowest)
+    (λ l less.
+    c.last_single.ensures l less
+    ∙ single-last a.area.now a.rows.now a.gate c.requires.rows_ready.0 a.right a.shift c.requires.rows_ready.1 a.pins c.requires.inputs_below.1 a.lowest l less used
+    c.requires.inputs_below.0.0)
+
+pub last_four-requires : goal.last_four-requires
+last_four-requires c =
+    let four : c.args.end ≡ most_pins = omega (
+      arith,
+      c.in_default,
+      c.if-lowest-end.false,
+      c.requires.inputs_below.0.1,
+      c.requires.inputs_below.0.2,
+      (c.requires.rows_ready.0.net.gate c.args.gate
+          c.requires.rows_ready.0.inside).few_pins,
+    ) in record { rows_ready = c.requires.rows_ready; inputs_below = (c.requires.inputs_below.0.0, omega (arith, c.requires.inputs_below.0.1), omega (arith, c.requires.inputs_below.0.2)) }
+
+pub returns-in-2 : goal.returns-in-2
+returns-in-2 c = rw c.in-2.is c.last_two.ensures
+
+pub returns-in-3 : goal.returns-in-3
+returns-in-3 c = rw c.in-3.is c.last_three.ensures
+
+pub returns-in_default : goal.returns-in_default
+returns-in_default c =
+    let at-if1 = c.if-lowest-end in
+    let four : c.args.end ≡ most_pins = omega (
+      arith,
+      c.in_default,
+      at-if1.false,
+      c.requires.inputs_below.0.1,
+      c.requires.inputs_below.0.2,
+      (c.requires.rows_ready.0.net.gate c.args.gate
+          c.requires.rows_ready.0.inside).few_pins,
+    ) in
+    rw four c.last_four.ensures

@@ -1,0 +1,22 @@
+-- `image::load_output` meets its contract. Assumes nothing.
+use Prim.Native.Nat.{◌+◌, ◌≤◌, ◌<◌}
+use mathlib.Core.Path.{ap₂}
+use native.Mathlib.Omega.{arith}
+use lib.ListN.{set}
+use borrow.Author.Tests.{lt-ltb, le-ltb}
+use Rattle.refusal.proofs.Laws.{refused-not-fine}
+use Rattle.image.specs.Image.{output_at}
+use Rattle.image.specs.Refusals.{output_refusal}
+use Rattle.image.proofs.load_output.Goals as goal
+
+pub returns-then-index-inputs : goal.returns-then-index-inputs
+unfolding output_refusal
+returns-then-index-inputs c =
+    let a = c.args in
+    let far : a.inputs + a.gates ≤ output_at a.middle.now a.gates a.k = omega arith in record { value = simp (le-ltb _ _ far); words_after = λ e. refused-not-fine 8 a.k e }
+
+pub returns : goal.returns
+unfolding output_refusal
+returns c =
+    let a = c.args in
+    let near : output_at a.middle.now a.gates a.k < a.inputs + a.gates = omega arith in record { value = simp (lt-ltb _ _ near); words_after = λ e. ap₂ (set a.words.now) (omega arith) c.two_bytes-source.ensures.0 }

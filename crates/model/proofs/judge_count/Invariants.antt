@@ -1,0 +1,15 @@
+use Prim.Native.Nat.{◌-◌, ◌≤◌}
+use mathlib.Core.Path.{◌≡◌}
+use Rattle.model.specs.Model.{listed}
+use Rattle.model.specs.Counts.{over_fault}
+use Rattle.model.specs.Tables.{lines_from}
+use Rattle.model.proofs.judge_count.Given as goal
+
+abbrev pub invariant-loop-k : goal.invariant-loop-k
+invariant-loop-k l =
+    (l.k ≤ l.n) × (l.left ≤ l.most)
+    × (over_fault (listed l.wanted (lines_from l.text l.starts l.lines l.n l.k)) l.left ≡ over_fault (listed l.wanted (lines_from l.text l.starts l.lines l.n 0)) l.most)
+
+abbrev pub decreases-loop-k : goal.decreases-loop-k
+decreases-loop-k l =
+    l.n - l.k

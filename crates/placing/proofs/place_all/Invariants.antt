@@ -1,0 +1,11 @@
+use Prim.Native.Nat.{◌-◌}
+use Rattle.placing.specs.Placing.{sources_of, left}
+use Rattle.placing.proofs.Going.{Going}
+use Rattle.placing.proofs.place_all.Given as goal
+
+abbrev pub invariant-loop-gate : goal.invariant-loop-gate
+invariant-loop-gate l =
+    Going (sources_of l.pins l.counts) l.n l.gates l.initial.place l.q l.place l.order l.gate
+
+abbrev pub decreases-loop-gate : goal.decreases-loop-gate
+decreases-loop-gate l = left l.place l.gates

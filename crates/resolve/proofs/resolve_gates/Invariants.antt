@@ -1,0 +1,13 @@
+use Prim.Native.Nat.{◌-◌, ◌≤◌}
+use mathlib.Core.Path.{◌≡◌}
+use lib.ListN.{length}
+use Rattle.resolve.proofs.Gates.{Resolving}
+use Rattle.resolve.proofs.resolve_gates.Given as goal
+
+abbrev pub invariant-loop-j : goal.invariant-loop-j
+invariant-loop-j l =
+    (l.j ≤ l.gates) × Resolving l.text l.names l.many l.starts l.lines l.n l.heads l.pins l.counts l.j × (length l.pins ≡ length l.initial.pins) × (length l.counts ≡ length l.initial.counts)
+
+abbrev pub decreases-loop-j : goal.decreases-loop-j
+decreases-loop-j l =
+    l.gates - l.j

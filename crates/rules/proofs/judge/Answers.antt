@@ -1,0 +1,29 @@
+-- `rules::judge` meets its contract: an area that passes all but the sum can have its live readers counted. Assumes nothing.
+use mathlib.Core.Path.{◌≡◌, sym, ◌∙◌}
+use native.Mathlib.Omega.{arith}
+use Rattle.refusal.specs.declared.Judgement.TheVariants.{Fine}
+use Rattle.area.specs.Rules.{NetSound, words_judgement}
+use Rattle.rules.proofs.Sound.{workable, past_words, stopped-words}
+use Rattle.rules.proofs.judge.Goals.{In-Fine}
+use Rattle.rules.proofs.judge.Goals as goal
+
+-- what all but the sum tell
+module _ (c : In-Fine) where
+  fine : words_judgement c.args.area.now ≡ Fine
+  fine = sym c.judge_words.ensures ∙ c.in-Fine.is
+
+  sound-net : NetSound c.args.area.now
+  sound-net = (workable c.args.area.now fine).net
+
+pub count_live-requires : goal.count_live-requires
+count_live-requires c = sound-net c
+
+pub judge_sum-requires : goal.judge_sum-requires
+judge_sum-requires c = (omega (arith, (sound-net (goal.at.judge_sum-requires c).In-Fine).long), c.count_live.ensures.sum_value.0)
+
+pub returns-in-Fine : goal.returns-in-Fine
+returns-in-Fine c = c.judge_sum.ensures ∙ sym (past_words c.args.area.now (fine (goal.at.returns-in-Fine c).In-Fine))
+
+pub returns-in-Refused : goal.returns-in-Refused
+returns-in-Refused c =
+    sym (stopped-words c.args.area.now _ _ (sym c.judge_words.ensures ∙ c.in-Refused.is))

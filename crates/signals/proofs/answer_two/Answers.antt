@@ -1,0 +1,15 @@
+-- `signals::answer_two` meets its contract: by its last pin. Assumes nothing.
+use mathlib.Core.List.{[], ◌∷◌}
+use mathlib.Core.Path.{◌∙◌}
+use lib.ListN.{get_or}
+use Rattle.signals.specs.Signals.{lane}
+use Rattle.signals.proofs.Answers.{by_last}
+use Rattle.signals.proofs.answer_two.Goals as goal
+
+pub returns : goal.returns
+returns c =
+    let a = c.args in
+    c.select.ensures l less
+    ∙ by_last a.table (lane l (get_or a.by.now 2 0) ∷ []) (lane l a.second)
+    (c.answer_one.ensures l less)
+    (c.answer_one-2.ensures l less)

@@ -1,0 +1,66 @@
+-- `work::work_marked` meets its contract: what is left to work out comes to the same, and the area stays workable. Assumes nothing.
+use Prim.Native.Nat.{ℕ, ◌+◌, ◌-◌, ◌<◌}
+use mathlib.Core.Bool.{true, false}
+use mathlib.Core.Logic.{⊎_elim}
+use mathlib.Core.Path.{◌≡◌, refl, sym, ap, ◌∙◌}
+use native.Mathlib.Omega.{arith}
+use lib.ListN.{length, set}
+use Rattle.area.specs.Layout.{inputs, gates}
+use Rattle.work.specs.Work.{reads_marked, work_marked}
+use Rattle.work.proofs.Frame.{same_gates, same_inputs, same-work-if}
+use Rattle.work.proofs.Sound.{workable-work-if}
+use Rattle.work.proofs.Loops.{mark-if-length, marked_turn}
+use Rattle.work.proofs.work_marked.Goals.{Joined-reads_marked}
+use Rattle.work.proofs.work_marked.Goals as goal
+
+pub loop-gate-init : goal.loop-gate-init
+loop-gate-init c =
+    let e = c.gates-count.ensures in (
+      omega (arith, e, c.requires.from_bound),
+      sym e,
+      sym c.inputs-n.ensures,
+      c.requires.workable,
+      refl,
+      omega arith,
+      ap (λ (m : ℕ). work_marked c.args.area.now c.args.marks c.args.from (m - c.args.from)) e,
+    )
+
+pub reads_marked-requires : goal.reads_marked-requires
+reads_marked-requires c =
+    let l = c.loop-gate in record { workable = l.invariant.3; gate_bound = omega (arith, l.invariant.1) }
+
+-- what a turn leaves: the gate worked out and marked where it reads a marked source
+module _ (c : Joined-reads_marked) where
+  turned : Turned
+  turned =
+      let tested = sym c.reads_marked.ensures in
+      ⊎_elim
+      (λ w. record {
+        marked = true;
+        reads = tested ∙ w.0.taken;
+        words = w.5 ∙ w.2.ensures;
+        marks = w.6 ∙ ap (λ (n : ℕ). set c.loop-gate.marks (n + c.loop-gate.gate) 1) (sym c.loop-gate.invariant.2);
+      })
+      (λ w. record { marked = false; reads = tested ∙ w.0.left; words = w.1; marks = w.2 })
+      c.if-reads_marked.branch
+
+pub loop-gate-preserved : goal.loop-gate-preserved
+loop-gate-preserved c =
+    let a = c.loop-gate in
+    let t = turned c in
+    let below : a.gate < gates a.area = omega (arith, a.invariant.1) in
+    let same = same-work-if t.marked a.area a.gate below in (
+      omega arith,
+      rw t.words (same_gates a.area _ same ∙ a.invariant.1),
+      rw t.words (same_inputs a.area _ same ∙ a.invariant.2),
+      rw t.words (workable-work-if a.area a.invariant.3 t.marked a.gate below),
+      ap length t.words ∙ same.size ∙ a.invariant.4,
+      ap length t.marks ∙ mark-if-length t.marked a.marks (inputs a.area + a.gate) ∙ a.invariant.5,
+      marked_turn a.area c.if-reads_marked.area a.marks c.if-reads_marked.marks a.gate _ t.marked (omega arith) t.reads t.words t.marks a.invariant.6,
+    )
+
+pub returns : goal.returns
+returns c =
+    let l = c.loop-gate in
+    let none : c.gates-count.result - l.gate ≡ 0 = omega arith in
+    sym (ap (work_marked l.area l.marks l.gate) none) ∙ l.invariant.6

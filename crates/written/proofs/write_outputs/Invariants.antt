@@ -1,0 +1,15 @@
+use Prim.Native.Nat.{◌-◌, ◌*◌, ◌≤◌}
+use mathlib.Core.Path.{◌≡◌}
+use lib.ListN.{length}
+use lib.Seq.{sets}
+use Rattle.lists.specs.Lists.{joined}
+use Rattle.area.specs.Layout.{gates}
+use Rattle.image.specs.Image.{record_bytes}
+use Rattle.written.proofs.write_outputs.Given as goal
+
+abbrev pub invariant-loop-k : goal.invariant-loop-k
+invariant-loop-k l =
+    (l.k ≤ l.outputs) × (length l.image ≡ length l.initial.image) × (l.image ≡ sets l.initial.image (record_bytes * gates l.area) (joined (word l.area) l.k))
+
+abbrev pub decreases-loop-k : goal.decreases-loop-k
+decreases-loop-k l = l.outputs - l.k
