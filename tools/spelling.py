@@ -18,6 +18,16 @@ BY_HAND = {"pinsBelow": "PinsBelow", "getD-map-inside": "get_or-map-inside"}
 # A field that would fall together with the definition `pinCount`; where a call of `pin_count` is cited the name stays.
 FIELD = (re.compile(r"(?<![\w'-])(?<!before\.)(?<!\bc\.)pin-count(?![\w'.-])"), "few_pins")
 KEPT = {"eM"}
+# Lemmas that would get the name of the definition that they speak of.
+LEMMAS = {
+    "fold_over": "fold_pins-over",
+    "is_live": "is_live-positive",
+    "all_placed": "all_placed-all",
+    "last_line": "last_line-number",
+    "in_a_row": "in_a_row-refusal",
+    "right_answer": "right_answer-at",
+}
+LEMMA = re.compile(r"(?<![\w':.-])(" + "|".join(LEMMAS) + r")(?![\w'-])(?! = )")
 
 
 def texts():
@@ -66,7 +76,11 @@ def main():
     for path in paths:
         with open(path) as it:
             text = it.read()
-        turned = FIELD[0].sub(FIELD[1], text) if path.endswith(".antt") else text
+        turned = text
+        if "/proofs/" in path:
+            turned = LEMMA.sub(lambda name: LEMMAS[name[0]], turned)
+        if path.endswith(".antt"):
+            turned = FIELD[0].sub(FIELD[1], turned)
         turned = WORD.sub(lambda word: new.get(word[0], word[0]), turned)
         if turned != text:
             with open(path, "w") as it:

@@ -85,8 +85,8 @@ last_word t s l i (suc k) =
     shift : suc i + k ≡ i + suc k
     shift = omega arith
 
-pub last_line : (t s l : List ℕ) (n : ℕ) → 0 < n → (last_line (lines_from t s l n 0)).number ≡ get_or l (n - 1) 0
-last_line t s l n h =
+pub last_line-number : (t s l : List ℕ) (n : ℕ) → 0 < n → (last_line (lines_from t s l n 0)).number ≡ get_or l (n - 1) 0
+last_line-number t s l n h =
     let one : n - 0 ≡ suc (n - 1) = omega arith in
     ap (λ (k : ℕ). (last_line (lines_of (held t s l 0 k))).number) one ∙ last_word t s l 0 (n - 1) ∙ ap (λ (x : ℕ). get_or l x 0) (zero-add (n - 1))
 
@@ -104,7 +104,7 @@ some_output ls a x e = go (leb (length (listed outputs_key ls)) 0) refl
     go false p = rw (le-leb 1 (length (listed outputs_key ls)) (leb-false (length (listed outputs_key ls)) 0 p))
 
 -- the tests in a row
-pub in_a_row : (ls : List Line) (room : ℕ) → lines_refusal ls room ≡ otherwise (count_fault ls) (names_refusal ls room)
+pub in_a_row-refusal : (ls : List Line) (room : ℕ) → lines_refusal ls room ≡ otherwise (count_fault ls) (names_refusal ls room)
 unfolding names_fault
-in_a_row ls room =
+in_a_row-refusal ls room =
     flat (count_fault ls) (again_fault (defined ls)) (unknown_fault (defined ls) (listed outputs_key ls)) (sources_fault ls) (loops_fault ls) (room_fault ls room)

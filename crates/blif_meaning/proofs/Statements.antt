@@ -19,7 +19,7 @@ use Rattle.names.specs.Names.{same}
 use Rattle.names.proofs.Names.{same-equal}
 use Rattle.placing.specs.Placing.{entries, Reads, Kept}
 use Rattle.placing.proofs.Earliest.{earliest}
-use Rattle.loops.proofs.First.{all_placed}
+use Rattle.loops.proofs.First.{all_placed-all}
 use Rattle.model.specs.Model.{inputs_key, outputs_key, gates_key, listed, gates_of, defined, number, no_word, no_gate}
 use Rattle.model.specs.Counts.{line_at, count_fault}
 use Rattle.model.proofs.Heading.{gates-listed}
@@ -111,7 +111,7 @@ module _ (ls : List Line) (fine : model_fault ls ≡ Fine) where
 
   all_are : r.count ≡ gate_count ls
   all_are =
-      all_placed (source_numbers ls) (input_count ls) (gate_count ls) (gates_known ls names-fine) no_place r.place r.order r.count r.placed
+      all_placed-all (source_numbers ls) (input_count ls) (gate_count ls) (gates_known ls names-fine) no_place r.place r.order r.count r.placed
       (λ (j : ℕ). line_at (defined ls) (input_count ls + j)) loops-fine
 
   pub kept : Kept (source_numbers ls) (input_count ls) (gate_count ls) (gate_count ls) r.place r.order

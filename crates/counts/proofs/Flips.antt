@@ -26,7 +26,7 @@ use Rattle.area.proofs.Words.{used-below, pin-below, output-below}
 use Rattle.signals.specs.Signals.{lane_count, lane, InEachLane, right_in, WordsHold}
 use Rattle.signals.proofs.Lanes.{lane_xor, lane-zero}
 use Rattle.counts.specs.Counts.{in_list, right_answer, changed_answer, Flipped, some_changed}
-use Rattle.counts.proofs.Right.{right_answer}
+use Rattle.counts.proofs.Right.{right_answer-at}
 use Rattle.counts.proofs.Windows.{is-or-not, by_order, same-differ, no_change}
 
 -- a right value inverted where it differs from another is that other
@@ -114,7 +114,7 @@ module _ (ws patterns words : List ℕ) (sound : NetSound ws) (held : WordsHold 
     unchanged_pins few = no_change ws words sound changed m here (λ i used. flip.before (pin ws m i) (omega (arith, pin-below ws sound m here i used))) l
 
     gate-changes : ((s : ℕ) → s < inputs ws + m → Changes s) → Changes (inputs ws + m)
-    gate-changes earlier = go ∙ sym (ap₂ differ (flipped-answer earlier) (right_answer ws patterns words sound held l less m here))
+    gate-changes earlier = go ∙ sym (ap₂ differ (flipped-answer earlier) (right_answer-at ws patterns words sound held l less m here))
       where
         -- what the answers come to where gate m flips if b is set
         at : (b : Bool) → get_or flips m false ≡ b → {x : Bool} → x ≡ differ (invert_if b (changed_answer ws words changed m l)) (right_answer ws words m l)

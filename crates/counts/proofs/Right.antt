@@ -20,9 +20,9 @@ use Rattle.signals.proofs.Held.{pins-lanes}
 use Rattle.counts.specs.Counts.{right_answer, Worked}
 
 module _ (ws patterns words : List ℕ) (sound : NetSound ws) (held : WordsHold (inputs ws + gates ws) (right_in (net_of ws [] []) patterns) words) where
-  pub right_answer : (l : ℕ) → l < lane_count → (m : ℕ) → m < gates ws
+  pub right_answer-at : (l : ℕ) → l < lane_count → (m : ℕ) → m < gates ws
       → get_or (right_in (net_of ws [] []) patterns l) (inputs ws + m) false ≡ right_answer ws words m l
-  right_answer l less m here =
+  right_answer-at l less m here =
       let right = right_in (net_of ws [] []) patterns l in
       right-gate (net_of ws [] []) (sound-pins ws [] [] sound) (get_or patterns l 0) m (omega (arith, gate_count ws [] []))
       ∙ ap (λ (g : Gate). answer g.table (pin_values right g.pins)) (gate-at ws [] [] m here)
@@ -31,7 +31,7 @@ module _ (ws patterns words : List ℕ) (sound : NetSound ws) (held : WordsHold 
       (λ i h. sym (held.held l (get_or (used_pins ws m) i 0) less (omega (arith, used-below ws sound m here i h)))))
 
   pub words-worked : Worked ws words
-  words-worked m here l less = held.held l (inputs ws + m) less (omega arith) ∙ right_answer l less m here
+  words-worked m here l less = held.held l (inputs ws + m) less (omega arith) ∙ right_answer-at l less m here
 
 -- the pins' words, used or not, beside the values of the used ones
 module _ (ws words : List ℕ) (j : ℕ) where

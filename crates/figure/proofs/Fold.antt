@@ -18,8 +18,8 @@ step : (u f : ℕ) (W : List Bool → ℕ) (g h : List Bool → List Bool) (E : 
 step u f W g h [] = refl
 step u f W g h (e ∷ E) = ap (λ (xs : List ℕ). blend u (W (g e)) (W (h e)) f ∷ xs) (step u f W g h E)
 
-pub fold_over : (u : ℕ) (fs : List ℕ) (W : List Bool → ℕ) → fold_pins u fs (map W (error_patterns (length fs))) ≡ fold_over u fs W
-fold_over u [] W = refl
-fold_over u (f ∷ fs) W =
+pub fold_pins-over : (u : ℕ) (fs : List ℕ) (W : List Bool → ℕ) → fold_pins u fs (map W (error_patterns (length fs))) ≡ fold_over u fs W
+fold_pins-over u [] W = refl
+fold_pins-over u (f ∷ fs) W =
     ap (fold_pins u fs) (step u f W (λ e. false ∷ e) (λ e. true ∷ e) (error_patterns (length fs)))
-    ∙ fold_over u fs (λ es. blend u (W (false ∷ es)) (W (true ∷ es)) f)
+    ∙ fold_pins-over u fs (λ es. blend u (W (false ∷ es)) (W (true ∷ es)) f)

@@ -9,7 +9,7 @@ use lib.ListN.{length, get_or}
 use Rattle.rounding.specs.Rounding.{units_in_one, blend}
 use Rattle.rounding.proofs.Laws.{blend-none, blend-at-most}
 use Rattle.figure.specs.Figure.{answer, inverted, error_patterns, difference, start_values, fold_pins}
-use Rattle.figure.proofs.Fold.{fold_over, fold_over}
+use Rattle.figure.proofs.Fold.{fold_over, fold_pins-over}
 use Rattle.netlist.specs.Seen.{alone, differ}
 use Rattle.rows.specs.Rows.{value_if}
 use Rattle.folds.specs.Failing.{fold_first}
@@ -123,7 +123,7 @@ unfolding start_values difference
 fold-all table vs fs e =
     let start : List Bool → ℕ = λ us. value_if (differ (answer table us) (answer table vs)) in
     ap (λ (n : ℕ). fold_pins units_in_one fs (map (difference units_in_one table vs) (error_patterns n))) (sym e)
-    ∙ fold_over units_in_one fs (difference units_in_one table vs)
+    ∙ fold_pins-over units_in_one fs (difference units_in_one table vs)
     ∙ ap (fold_over units_in_one fs) (fun_ext (λ es. value_of (answer table (inverted vs es)) (answer table vs)))
     ∙ fold-from start (λ i. get_or fs i 0) vs fs 0 (λ i. ap (λ (k : ℕ). get_or fs k 0) (from_zero i))
     ∙ ap (λ (n : ℕ). fold_first start (λ i. get_or fs i 0) n vs) (sym (from_zero (length fs)))

@@ -59,9 +59,9 @@ module _ (S : ℕ → List ℕ) (n g : ℕ) (known : (j i : ℕ) → j < g → R
       (λ j h. rw (no_way j (no_loop S n g g place order kept j (left-none place g (omega (arith, kept.count)) j h))))
 
   -- where no gate depends on itself all are placed
-  pub all_placed : (start place order : List ℕ) (q : ℕ) → Placed S n g start q place order → (line : ℕ → ℕ) → loop_fault S n g line ≡ Fine → q ≡ g
+  pub all_placed-all : (start place order : List ℕ) (q : ℕ) → Placed S n g start q place order → (line : ℕ → ℕ) → loop_fault S n g line ≡ Fine → q ≡ g
   unfolding loop_fault
-  all_placed start place order q placed line fine =
+  all_placed-all start place order q placed line fine =
       by_cases (dec_lt 0 (left place g)) (λ some. absurd (stuck some)) (λ none. omega (arith, placed.kept.count))
     where
       free : (j : ℕ) → j < g → Depends S n j j → ⊥

@@ -12,7 +12,7 @@ use Rattle.lists.proofs.Every.{map-all}
 use Rattle.rounding.specs.Rounding.{blend, to_units}
 use Rattle.rounding.proofs.Laws.{at_most, blend-at-most}
 use Rattle.figure.specs.Figure.{difference, answer, inverted, error_patterns, start_values, fold_pins, gate_step, gate_failure, output_step}
-use Rattle.figure.proofs.Fold.{fold_over, fold_over}
+use Rattle.figure.proofs.Fold.{fold_over, fold_pins-over}
 use Rattle.netlist.specs.Netlist.{Gate, Netlist, gate_at, pin_values, right_values}
 use Rattle.netlist.specs.Figures.{pin_failures, failures_from, failures, reliability_from, reliability}
 use Rattle.netlist.specs.WellFormed.{PinsBelow, WellFormed}
@@ -98,7 +98,7 @@ pub start-fold : (u table : ℕ) (vs : List Bool) (fs : List ℕ) → length vs 
     → fold_pins u fs (start_values u table vs) ≡ fold_over u fs (difference u table vs)
 unfolding start_values
 start-fold u table vs fs e =
-    ap (λ (k : ℕ). fold_pins u fs (map (difference u table vs) (error_patterns k))) e ∙ fold_over u fs (difference u table vs)
+    ap (λ (k : ℕ). fold_pins u fs (map (difference u table vs) (error_patterns k))) e ∙ fold_pins-over u fs (difference u table vs)
 
 -- a step 1 value is 0 or u
 pub start-at-most : (u : ℕ) (right : Bool) → cond right 0 u ≤ u

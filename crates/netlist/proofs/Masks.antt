@@ -104,13 +104,13 @@ mask-means net below q j =
     let g = gate_at net k in
     part-below (net.inputs + k) (sensitive g.table (pin_values (right_values net q) g.pins)) 0 g.pins (below k l) in (
       λ e. read-reached net pick picked (net.inputs + j) (some-live _ e),
-      λ reached. is_live _ (reached-read net pick picked reached),
+      λ reached. is_live-positive _ (reached-read net pick picked reached),
     )
   where
     some-live : (n : ℕ) → is_live n ≡ true → 0 < n
     some-live zero e = absurd (false≢true e)
     some-live (suc n) e = omega arith
 
-    is_live : (n : ℕ) → 0 < n → is_live n ≡ true
-    is_live zero h = absurd (omega arith)
-    is_live (suc n) h = refl
+    is_live-positive : (n : ℕ) → 0 < n → is_live n ≡ true
+    is_live-positive zero h = absurd (omega arith)
+    is_live-positive (suc n) h = refl

@@ -25,7 +25,7 @@ use Rattle.netlist.proofs.Values.{inputs-length, pins-agree}
 use Rattle.netlist.proofs.Live.{live-if, count-more}
 use Rattle.netlist.proofs.Flipped.{values-keep}
 use Rattle.netlist.proofs.Masks.{part-where, masks-live, mask-later}
-use Rattle.netlist.proofs.Wrong.{differ-not, wrong, wrong_reads, none-wrong, wrong-next, wrong-with, is_live, outputs-wrong, gate-wrong}
+use Rattle.netlist.proofs.Wrong.{differ-not, wrong, wrong_reads, none-wrong, wrong-next, wrong-with, is_live-positive, outputs-wrong, gate-wrong}
 
 -- ---- one gate's turn: its answer is read c times and wrong if b is set, k of its pins read a wrong source, and m other reads are wrong
 
@@ -34,7 +34,7 @@ passed_on : (b : Bool) (c k m : ℕ) → (0 < c → k ≡ bit_of b) → is_live 
 passed_on b zero k m h =
     let same : m + bit_of b * 0 ≡ 0 + m = omega arith in
     ap is_live same
-passed_on true (suc c) k m h = is_live (m + 1 * suc c) (omega arith) ∙ sym (is_live (k + m) (omega (arith, h (omega arith))))
+passed_on true (suc c) k m h = is_live-positive (m + 1 * suc c) (omega arith) ∙ sym (is_live-positive (k + m) (omega (arith, h (omega arith))))
 passed_on false (suc c) k m h =
     let same : m + 0 * suc c ≡ k + m = omega (arith, h (omega arith)) in
     ap is_live same

@@ -67,9 +67,9 @@ pub wrong-with : (ws vs : List Bool) (s : ℕ) (ps rs : List ℕ)
     → wrong_reads ws vs (with_gate s ps rs) ≡ if_live (count s rs) (wrong_reads ws vs ps) + wrong_reads ws vs rs
 wrong-with ws vs = reads-with (wrong_reads ws vs) (where-append (wrong ws vs))
 
-pub is_live : (k : ℕ) → 0 < k → is_live k ≡ true
-is_live zero h = absurd (omega arith)
-is_live (suc k) h = refl
+pub is_live-positive : (k : ℕ) → 0 < k → is_live k ≡ true
+is_live-positive zero h = absurd (omega arith)
+is_live-positive (suc k) h = refl
 
 -- outputs disagree where one of their reads is wrong
 pub outputs-wrong : (ws vs : List Bool) (os : List ℕ) → not (outputs_agree os ws vs) ≡ is_live (wrong_reads ws vs os)
@@ -79,7 +79,7 @@ outputs-wrong ws vs (o ∷ os) = go (beq (get_or ws o false) (get_or vs o false)
     go : (c : Bool) → not (outputs_agree os ws vs) ≡ is_live (wrong_reads ws vs os)
         → not (c && outputs_agree os ws vs) ≡ is_live (bit_of (not c) + wrong_reads ws vs os)
     go true rest = rest ∙ ap is_live (sym (zero-add (wrong_reads ws vs os)))
-    go false rest = sym (is_live (1 + wrong_reads ws vs os) (omega arith))
+    go false rest = sym (is_live-positive (1 + wrong_reads ws vs os) (omega arith))
 
 -- ---- the pins of a gate
 

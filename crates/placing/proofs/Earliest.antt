@@ -13,7 +13,7 @@ use lib.Dec.{eqb, ltb}
 use borrow.Author.Tests.{eq-eqb, ne_eqb, eqb-true, ltb-true, ltb-false}
 use Rattle.area.specs.Layout.{most_gates}
 use Rattle.placing.specs.Placing.{placed_source, all_placed, ready, passed, placing_order, CanFollow, Earliest}
-use Rattle.placing.proofs.Placed.{all_placed}
+use Rattle.placing.proofs.Placed.{all_placed-all}
 use Rattle.placing.proofs.Search.{found-ready}
 
 -- the sources of a gate whose gate sources are placed
@@ -148,7 +148,7 @@ module _ (S : ℕ → List ℕ) (n g : ℕ) (within : g ≤ most_gates) where
               (record {
                 gate = inside;
                 fresh = λ p h e. omega (arith, idle, d.placed p h, ap (λ (y : ℕ). get_or place y 0) (sym (before p h) ∙ e));
-                fed = λ i m. let old = d.listed i (all_placed n place (S x) sourced i m) in (old.0, (old.1.0, before old.0 old.1.0 ∙ old.1.1));
+                fed = λ i m. let old = d.listed i (all_placed-all n place (S x) sourced i m) in (old.0, (old.1.0, before old.0 old.1.0 ∙ old.1.1));
               });
           least = λ j c. rw here (rw zero-add at (passed-least S n place 0 g j (omega arith) (rw zero-add c.gate) (is-ready j c)));
         }

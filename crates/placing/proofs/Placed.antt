@@ -29,10 +29,10 @@ pub no_loop : (S : ℕ → List ℕ) (n g q : ℕ) (place order : List ℕ) → 
 no_loop S n g q place order k j h d = omega (arith, (depends-before S n g q place order k j j h d).1)
 
 -- each gate source of a gate that is ready is placed
-pub all_placed : (n : ℕ) (place ds : List ℕ) → all_placed n place ds ≡ true → (i : ℕ) → Memᴰ (n + i) ds → 0 < get_or place i 0
-all_placed n place [] e i m = elim m [ ]
-all_placed n place (d ∷ ds) e i m =
-    go (placed_source n place d) refl (all_placed n place ds)
+pub all_placed-all : (n : ℕ) (place ds : List ℕ) → all_placed n place ds ≡ true → (i : ℕ) → Memᴰ (n + i) ds → 0 < get_or place i 0
+all_placed-all n place [] e i m = elim m [ ]
+all_placed-all n place (d ∷ ds) e i m =
+    go (placed_source n place d) refl (all_placed-all n place ds)
   where
     here : placed_source n place d ≡ true → n + i ≡ d → 0 < get_or place i 0
     here p q =
@@ -134,7 +134,7 @@ module _ (S : ℕ → List ℕ) (n g q : ℕ) (place order : List ℕ) (kept : K
         low = λ i. by-gate (λ i. get_or (set place j (q + 1)) i 0 ≤ q + 1) i (omega (arith, same)) (λ o. omega (arith, other i o, kept.low i));
         after = λ i m. by-gate (λ i. 0 < get_or (set place j (q + 1)) i 0 → Reads S n i m → (0 < get_or (set place j (q + 1)) m 0) × (get_or (set place j (q + 1)) m 0 < get_or (set place j (q + 1)) i 0)) i
             (λ _ r.
-            let was = all_placed n place (S j) fed m r in
+            let was = all_placed-all n place (S j) fed m r in
             let off = other m (λ e. omega (arith, ap (λ (x : ℕ). get_or place x 0) e, idle)) in
             (omega (arith, was, off), omega (arith, kept.low m, off, same)))
             (λ o h r.

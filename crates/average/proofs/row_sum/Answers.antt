@@ -50,8 +50,8 @@ loop-l-preserved c =
     let l = at-loop in
     let a = c.args in (
       omega arith,
-      sum_more (λ k. get_or a.weights.now (a.start + k) 0 * get_or a.t1 k 0) l.l l.sum _ l.invariant.1
-          (ap (λ (w : ℕ). w * get_or a.t1 l.l 0) c.weight_at.ensures),
+      sum_more (λ k. get_or a.weights.now (a.start + k) 0 * get_or a.row k 0) l.l l.sum _ l.invariant.1
+          (ap (λ (w : ℕ). w * get_or a.row l.l 0) c.weight_at.ensures),
       omega (arith, term c, l.invariant.2),
     )
 

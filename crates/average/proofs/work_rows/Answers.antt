@@ -48,7 +48,7 @@ gates-count-requires c =
 
 pub overflow_mul-shift : goal.overflow_mul-shift
 overflow_mul-shift c =
-    omega (arith, c.requires.values_from.0.1)
+    omega (arith, c.requires.values_from.1)
 
 pub bounds-next-0 : goal.bounds-next-0
 bounds-next-0 c =
@@ -56,8 +56,8 @@ bounds-next-0 c =
 
 pub loop-gate-init : goal.loop-gate-init
 loop-gate-init c =
-    reach (goal.at.loop-gate-init c).Start _ 0 _ (c.requires.workable.1.each 0 (omega arith) (omega arith)) c.requires.values_from.1.0 (λ j none live. absurd (omega arith))
-    (c.requires.values_from.1.1 c.args.number c.requires.values_from.0.1)
+    reach (goal.at.loop-gate-init c).Start _ 0 _ (c.requires.workable.1.each 0 (omega arith) (omega arith)) c.requires.rows_kept.0 (λ j none live. absurd (omega arith))
+    (c.requires.rows_kept.1 c.args.number c.requires.values_from.1)
 
 -- a turn's gate
 module _ (c : In-loop-gate) where
@@ -97,7 +97,7 @@ work_row-requires c =
         omega (arith, p.workable.0.figures.flip_fits _ (inside turn)),
       );
       right_here = (
-        block-right a.area.now p.workable.0 start l.rows (reached turn).kept l.gate (inside turn) (reached turn).block live a.words.now p.values_from.0.0,
+        block-right a.area.now p.workable.0 start l.rows (reached turn).kept l.gate (inside turn) (reached turn).block live a.words.now p.values_from.0,
         (reached turn).kept.long,
       );
     }
@@ -128,7 +128,7 @@ loop-gate-preserved c =
     rw w.3
     (reach (goal.at.loop-gate-preserved c).Start _ _ _ (after turn) (kept-live a.area.now p.workable.0 start l.rows _ l.gate _ (reached turn).kept stored w.2.ensures.1)
     (block-live a.area.now p.workable.0 start l.rows (reached turn).kept l.gate (inside turn) (reached turn).block ((reached turn).live (inside turn))
-    a.words.now p.values_from.0.0 _ stored)
+    a.words.now p.values_from.0 _ stored)
     (held-live a.area.now a.unseen.now l.rows _ a.held a.number l.gate _ stored (reached turn).rest)))
     (λ w.
     let same = eqb-true _ _ (sym (rw (place turn) at c.same_row.ensures) ∙ not-false _ w.0.left) in

@@ -57,14 +57,14 @@ whole s = take (taken s) (words s) ++ drop (taken s) (area s)
 
 pub work_all-requires : goal.work_all-requires
 work_all-requires c =
-    rw (c.store.ensures ∙ stored (goal.at.work_all-requires c).After-needed-needed (omega (arith, counted (goal.at.work_all-requires c).After-needed-needed))) (c.requires.by_index.0 (drop (taken (goal.at.work_all-requires c).Start) (area (goal.at.work_all-requires c).Start)))
+    rw (c.store.ensures ∙ stored (goal.at.work_all-requires c).After-needed-needed (omega (arith, counted (goal.at.work_all-requires c).After-needed-needed))) (c.requires.by_index (drop (taken (goal.at.work_all-requires c).Start) (area (goal.at.work_all-requires c).Start)))
 
 pub store_sum-requires : goal.store_sum-requires
 store_sum-requires c =
     let start = (goal.at.store_sum-requires c).Start in
     let worked = c.work_all.ensures
     ∙ ap work_all (c.store.ensures ∙ stored (goal.at.store_sum-requires c).After-needed-needed (omega (arith, counted (goal.at.store_sum-requires c).After-needed-needed))) in
-    rw worked (omega (arith, (same-work-all (whole start)).size, (c.requires.by_index.0 (drop (taken start) (area start))).net.long))
+    rw worked (omega (arith, (same-work-all (whole start)).size, (c.requires.by_index (drop (taken start) (area start))).net.long))
 
 pub returns : goal.returns
 unfolding loaded_words
@@ -72,4 +72,4 @@ returns c =
     let start = (goal.at.returns c).Start in
     let room : taken start ≤ length (area start) = omega (arith, counted (goal.at.returns c).After-needed-needed) in
     let e = fine-room (gates (words start)) (outputs (words start)) (length (area start)) room in
-    let worked = c.work_all.ensures ∙ ap work_all (c.store.ensures ∙ stored (goal.at.returns c).After-needed-needed room) in record { value = rw e refl; area_after = rw e (c.store_sum.ensures ∙ ap₂ stored_sum worked c.requires.by_index.1) }
+    let worked = c.work_all.ensures ∙ ap work_all (c.store.ensures ∙ stored (goal.at.returns c).After-needed-needed room) in record { value = rw e refl; area_after = rw e (c.store_sum.ensures ∙ ap₂ stored_sum worked c.requires.sum_value) }

@@ -11,7 +11,7 @@ count_live-counted-requires c =
 
 pub set_counted-requires : goal.set_counted-requires
 set_counted-requires c =
-    let counted = c.count_live-counted.ensures in record { area_value = (sym c.judge_words.ensures ∙ c.in-Fine.is, counted.1.0); by_index = counted.0 }
+    let counted = c.count_live-counted.ensures in record { area_value = (sym c.judge_words.ensures ∙ c.in-Fine.is, counted.sum_value.0); by_index = counted.by_index }
 
 pub returns-in-Fine : goal.returns-in-Fine
 returns-in-Fine c = let all = c.set_counted.ensures in record { value = all.0; area_after = all.1 }

@@ -13,7 +13,7 @@ use Rattle.chance.proofs.nearest_units.Goals.{After-rounded, Else-exponent-lt992
 use Rattle.chance.proofs.nearest_units.Goals as goal
 
 held : (c : Start) → T (fits binary64 c.args.chance)
-held c = subst T (sym c.well-formed.0.1) tt
+held c = subst T (sym c.well_formed.0.1) tt
 
 pub float_to_bits-bits : goal.float_to_bits-bits
 float_to_bits-bits c = range-no-nan c.args.chance c.requires

@@ -3,7 +3,6 @@
 use Prim.Native.Nat.{ℕ}
 use mathlib.Core.Path.{◌≡◌, refl, sym, ◌∙◌}
 use mathlib.Core.Bool.{Bool, true, false, ◌&&◌}
-use borrow.Author.Tests.{not-true, not-false}
 use lib.Ieee.{binary32, of_bits}
 use Rattle.chance.specs.Number.{from_zero_to_one}
 use Rattle.chance.specs.Flip.{in_range, strike_of, read_if}
@@ -26,20 +25,20 @@ unfolding in_range
 answer chance window p q e f = cc
 
 pub returns-then-not-is_chance : goal.returns-then-not-is_chance
-returns-then-not-is_chance c = answer c.args.chance c.args.window false _ (first (goal.at.returns-then-not-is_chance c).After-is_chance ∙ not-true _ c.if-not-is_chance.true) refl
+returns-then-not-is_chance c = answer c.args.chance c.args.window false _ (first (goal.at.returns-then-not-is_chance c).After-is_chance ∙ c.if-not-is_chance.true) refl
 
 pub returns-then-not-is_chance-2 : goal.returns-then-not-is_chance-2
 returns-then-not-is_chance-2 c =
     let a = c.args in
-    answer a.chance a.window true false (first (goal.at.returns-then-not-is_chance-2 c).After-is_chance ∙ not-false _ c.if-not-is_chance.false)
-    (second (goal.at.returns-then-not-is_chance-2 c).After-is_chance-2 ∙ not-true _ c.if-not-is_chance-2.true)
+    answer a.chance a.window true false (first (goal.at.returns-then-not-is_chance-2 c).After-is_chance ∙ c.if-not-is_chance.false)
+    (second (goal.at.returns-then-not-is_chance-2 c).After-is_chance-2 ∙ c.if-not-is_chance-2.true)
 
 -- past both tests
 first-held : (c : Else-not-is_chance-2) → from_zero_to_one (of_bits binary32 c.args.chance) ≡ true
-first-held c = first c.before.before.before ∙ not-false _ c.if-not-is_chance.false
+first-held c = first c.before.before.before ∙ c.if-not-is_chance.false
 
 second-held : (c : Else-not-is_chance-2) → from_zero_to_one (of_bits binary32 c.args.window) ≡ true
-second-held c = second c.before ∙ not-false _ c.if-not-is_chance-2.false
+second-held c = second c.before ∙ c.if-not-is_chance-2.false
 
 pub float_from_bits-result : goal.float_from_bits-result
 float_from_bits-result c = range-no-nan-bits binary32 c.args.chance (first-held c)

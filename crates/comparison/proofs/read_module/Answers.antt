@@ -19,7 +19,7 @@ returns-in-Done c =
     let bs = c.args.image.now in
     let told = opened-done bs _ _ c.«open».ensures.0
     c.in-Done.is in
-    let made = c.opened_module.ensures in record { value = rw told.0 (ap Done made.0); q_after = λ fine. made.1 }
+    let made = c.opened_module.ensures in record { value = rw told.0 (ap Done made.value); q_after = λ fine. made.by_index }
 
 pub returns-in-Refused : goal.returns-in-Refused
 returns-in-Refused c =

@@ -74,10 +74,10 @@ loop-gate-preserved c =
     let inside : gate < layout.gates ws = omega arith in
     let masks = subst (λ (k : ℕ). MasksFrom net patterns k l.masks) next l.invariant.1 in (
       omega arith,
-      masks-step ws patterns words c.requires.net_sound.0 at-right-words.ensures gate inside l.masks masks _ at-count-mask.ensures.gate_bound.1,
+      masks-step ws patterns words c.requires.net_sound.0 at-right-words.ensures gate inside l.masks masks _ at-count-mask.ensures.mask_passed,
       rw at-count-mask.ensures.counts_after
           (counted-down Mask net patterns a.counts.now c.requires.net_sound.1 l.gate (layout.gates ws) l.counts l.invariant.2 gate _
-          at-count-mask.ensures.gate_bound.0
+          at-count-mask.ensures.gate_bound
           (omega (arith, c.requires.counts_ready.long))
           (mask_lanes ws patterns words c.requires.net_sound.0 at-right-words.ensures gate inside l.masks masks)
           (l.invariant.2.before gate (omega arith))

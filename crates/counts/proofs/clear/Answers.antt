@@ -11,7 +11,7 @@ same : (t k : ℕ) → t < k + 1 → k ≤ t → t ≡ k
 same t k less past = omega arith
 
 pub loop-source-init : goal.loop-source-init
-loop-source-init c = (c.requires.changed_len.0, c.requires.by_index.0, c.requires.by_index.1)
+loop-source-init c = (c.requires.changed_len.0, c.requires.by_index, c.requires.by_index_2)
 
 pub loop-source-preserved : goal.loop-source-preserved
 loop-source-preserved c =

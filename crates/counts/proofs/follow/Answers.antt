@@ -22,9 +22,9 @@ loop-window-preserved c =
     let l = c.loop-window in
     let learnt = c.follow_gate-window.ensures in
     let same = l.invariant.0 in (
-      learnt.0.0 ∙ same,
-      learnt.1.0,
-      rw same at learnt.1.1 ∙ l.invariant.2,
+      learnt.flipped_value.0 ∙ same,
+      learnt.following_2,
+      rw same at learnt.flipped_unchanged ∙ l.invariant.2,
     )
 
 pub returns : goal.returns

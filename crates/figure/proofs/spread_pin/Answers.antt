@@ -37,7 +37,7 @@ loop-i-preserved c =
     let a = c.args in
     let bit = get_or a.bits.now a.pin 0 in
     let right = get_or a.words.now a.pin 0 % 2 * bit in
-    (omega arith, simp length-set l.invariant.1, spread-turn right (bit - right) a.t1 l.spread l.i (omega arith) (omega arith) l.invariant.2)
+    (omega arith, simp length-set l.invariant.1, spread-turn right (bit - right) a.indices l.spread l.i (omega arith) (omega arith) l.invariant.2)
 
 pub returns : goal.returns
 returns c =

@@ -7,5 +7,5 @@ use Rattle.folds.proofs.inverted.Goals as goal
 
 pub returns : goal.returns
 returns c =
-    let four : length c.args.pins ≡ 4 = c.well-formed.0.1.0.1 in
+    let four : length c.args.pins ≡ 4 = c.well_formed.0.1.0.1 in
     pins-inverted l less count c.args.number c.args.pins used (omega (arith, c.requires))

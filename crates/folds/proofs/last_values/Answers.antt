@@ -8,17 +8,17 @@ use Rattle.folds.proofs.Last.{single-last}
 use Rattle.folds.proofs.last_values.Goals as goal
 
 pub last_single-requires : goal.last_single-requires
-last_single-requires c = record { rows_ready = c.requires.rows_ready; number_bound = (omega (arith, c.requires.inputs_below.0.1, c.requires.inputs_below.0.2), c.requires.inputs_below.1) }
+last_single-requires c = record { rows_ready = c.requires.rows_ready; number_bound = (omega (arith, c.requires.inputs_below.1, c.requires.inputs_below.2), c.requires.right_for) }
 
 pub returns-then-lowest-end : goal.returns-then-lowest-end
 returns-then-lowest-end c =
     let a = c.args in
-    let used : a.lowest < pin_count a.area.now a.gate = omega (arith, c.requires.inputs_below.0.1, c.requires.inputs_below.0.2) in
+    let used : a.lowest < pin_count a.area.now a.gate = omega (arith, c.requires.inputs_below.1, c.requires.inputs_below.2) in
     rw (← c.if-lowest-end.true, add-one a.lowest)
     (λ l less.
     c.last_single.ensures l less
-    ∙ single-last a.area.now a.rows.now a.gate c.requires.rows_ready.0 a.right a.shift c.requires.rows_ready.1 a.pins c.requires.inputs_below.1 a.lowest l less used
-    c.requires.inputs_below.0.0)
+    ∙ single-last a.area.now a.rows.now a.gate c.requires.rows_ready.0 a.right a.shift c.requires.rows_ready.1 a.pins c.requires.right_for a.lowest l less used
+    c.requires.inputs_below.0)
 
 pub last_four-requires : goal.last_four-requires
 last_four-requires c =
@@ -26,11 +26,11 @@ last_four-requires c =
       arith,
       c.in_default,
       c.if-lowest-end.false,
-      c.requires.inputs_below.0.1,
-      c.requires.inputs_below.0.2,
+      c.requires.inputs_below.1,
+      c.requires.inputs_below.2,
       (c.requires.rows_ready.0.net.gate c.args.gate
           c.requires.rows_ready.0.inside).few_pins,
-    ) in record { rows_ready = c.requires.rows_ready; inputs_below = (c.requires.inputs_below.0.0, omega (arith, c.requires.inputs_below.0.1), omega (arith, c.requires.inputs_below.0.2)) }
+    ) in record { rows_ready = c.requires.rows_ready; inputs_below = (c.requires.inputs_below.0, omega (arith, c.requires.inputs_below.1), omega (arith, c.requires.inputs_below.2)) }
 
 pub returns-in-2 : goal.returns-in-2
 returns-in-2 c = rw c.in-2.is c.last_two.ensures
@@ -45,8 +45,8 @@ returns-in_default c =
       arith,
       c.in_default,
       at-if1.false,
-      c.requires.inputs_below.0.1,
-      c.requires.inputs_below.0.2,
+      c.requires.inputs_below.1,
+      c.requires.inputs_below.2,
       (c.requires.rows_ready.0.net.gate c.args.gate
           c.requires.rows_ready.0.inside).few_pins,
     ) in

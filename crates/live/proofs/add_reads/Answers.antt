@@ -10,13 +10,13 @@ use Rattle.lists.proofs.Counts.{count-length, count_turn}
 use Rattle.live.proofs.add_reads.Goals as goal
 
 pub loop-i-init : goal.loop-i-init
-loop-i-init c = (omega arith, c.requires.by_index.1.0.long, λ s. sym (add-zero (get_or c.args.readers.now s 0)))
+loop-i-init c = (omega arith, c.requires.counts.0.long, λ s. sym (add-zero (get_or c.args.readers.now s 0)))
 
 pub offset_bounds-readers-source : goal.offset_bounds-readers-source
-offset_bounds-readers-source c = omega (arith, c.requires.by_index.0 c.loop-i.i (omega arith))
+offset_bounds-readers-source c = omega (arith, c.requires.by_index c.loop-i.i (omega arith))
 
 pub bounds-readers-source : goal.bounds-readers-source
-bounds-readers-source c = omega (arith, c.requires.by_index.0 c.loop-i.i (omega arith))
+bounds-readers-source c = omega (arith, c.requires.by_index c.loop-i.i (omega arith))
 
 pub overflow_add-readers : goal.overflow_add-readers
 overflow_add-readers c =
@@ -30,12 +30,12 @@ overflow_add-readers c =
       l.invariant.2 source,
       count-length source (take l.i reads),
       length-take l.i reads,
-      pre.by_index.1.0.few source,
-      pre.by_index.1.1,
+      pre.counts.0.few source,
+      pre.counts.1,
     )
 
 pub bounds-readers-source-in-loop-i : goal.bounds-readers-source-in-loop-i
-bounds-readers-source-in-loop-i c = omega (arith, c.requires.by_index.0 c.loop-i.i (omega arith))
+bounds-readers-source-in-loop-i c = omega (arith, c.requires.by_index c.loop-i.i (omega arith))
 
 pub loop-i-preserved : goal.loop-i-preserved
 loop-i-preserved c =
@@ -44,7 +44,7 @@ loop-i-preserved c =
     let pre = c.requires in
     let reads = drop a.start a.area.now in
     let source = c.index-source.result in
-    let below : source < most_sources = omega (arith, pre.by_index.0 l.i (omega arith)) in (
+    let below : source < most_sources = omega (arith, pre.by_index l.i (omega arith)) in (
       omega arith,
       simp length-set l.invariant.1,
       count_turn

@@ -40,7 +40,7 @@ enter-count-requires c =
     let many : at-run-many.result ≡ run_many (key_at a.text.now a.starts.now l.k) a.wanted at-line-rest.result =
     at-run-many.ensures ∙ ap (λ (x : ℕ). run_many x a.wanted at-line-rest.result) c.key_at.ensures in
     let stays = run_inside a.text.now a.starts.now a.lines.now a.n l.k at-line-rest.result at-loop-test.true at-line-rest.ensures a.wanted in
-    let room = roomy a.text.now a.starts.now a.lines.now a.n a.wanted _ _ a.from l.names l.numbers l.count l.k l.invariant.1 at-line-rest.result at-loop-test.true at-line-rest.ensures in record { many_in_bounds = (omega (arith, stays, many, at-run-start.ensures, c.requires.places.0.within), omega (arith, stays, many, at-run-start.ensures, c.requires.places.1)); many_in_bounds_2 = (omega (arith, room, many, c.requires.n_in_bounds.0, l.invariant.1.long), omega (arith, room, many, c.requires.n_in_bounds.0, c.requires.n_in_bounds.1, l.invariant.1.wide)) }
+    let room = roomy a.text.now a.starts.now a.lines.now a.n a.wanted _ _ a.from l.names l.numbers l.count l.k l.invariant.1 at-line-rest.result at-loop-test.true at-line-rest.ensures in record { many_in_bounds = (omega (arith, stays, many, at-run-start.ensures, c.requires.places.0.within), omega (arith, stays, many, at-run-start.ensures, c.requires.places.1)); many_in_bounds_2 = (omega (arith, room, many, c.requires.n_in_bounds, l.invariant.1.long), omega (arith, room, many, c.requires.n_in_bounds, c.requires.names_in_bounds, l.invariant.1.wide)) }
 
 pub overflow_add-k : goal.overflow_add-k
 overflow_add-k c =

@@ -62,7 +62,7 @@ loop-k-preserved c =
     let short = shorter a.text.now a.starts.now a.lines.now a.n l.k at-line-rest.result at-loop-test.true at-line-rest.ensures in
     let e = c.enter_head-count.ensures in
     let t = turn a.text.now a.starts.now a.lines.now a.n l.heads l.count l.k at-line-rest.result at-loop-test.true at-line-rest.ensures l.invariant.2
-    (omega (arith, l.invariant.1, c.requires.n_in_bounds)) at-key-at.result at-key-at.ensures _ _ e.1 e.0 in
+    (omega (arith, l.invariant.1, c.requires.n_in_bounds)) at-key-at.result at-key-at.ensures _ _ e.heads_after e.value in
     (omega (arith, short, at-loop-test.true), t.0 ∙ l.invariant.1, t.1)
 
 pub returns : goal.returns

@@ -3,7 +3,7 @@ use Prim.Native.Nat.{◌-◌}
 use mathlib.Core.Path.{◌≡◌, refl, sym, ◌∙◌}
 use mathlib.Core.Bool.{true, false}
 use native.Mathlib.Omega.{arith}
-use borrow.Author.Tests.{lt-leb, le-leb, not-true, not-false}
+use borrow.Author.Tests.{lt-leb, le-leb}
 use Rattle.names.specs.Names.{is_name, name_bytes}
 use Rattle.names.proofs.Names.{name-more, name-stop, name-end}
 use borrow.Author.Rules.{rules}
@@ -26,14 +26,14 @@ returns-then-not-name_byte c =
     let l = c.loop-i in
     let w = c.args.w.now in
     let no : name_bytes w ≡ false =
-    sym l.invariant.1 ∙ name-stop w l.i (search rules) (sym c.name_byte.ensures ∙ not-true _ c.if-not-name_byte.true) in
+    sym l.invariant.1 ∙ name-stop w l.i (search rules) (sym c.name_byte.ensures ∙ c.if-not-name_byte.true) in
     simp (le-leb _ _ c.if-w-lt1.false, le-leb _ _ c.if-w-gt-LONGEST_NAME.false, no)
 
 pub loop-i-preserved : goal.loop-i-preserved
 loop-i-preserved c =
     let l = c.loop-i in
     let w = c.args.w.now in
-    (omega arith, sym (name-more w l.i (search rules) (sym c.name_byte.ensures ∙ not-false _ c.if-not-name_byte.false)) ∙ l.invariant.1)
+    (omega arith, sym (name-more w l.i (search rules) (sym c.name_byte.ensures ∙ c.if-not-name_byte.false)) ∙ l.invariant.1)
 
 pub returns : goal.returns
 unfolding is_name

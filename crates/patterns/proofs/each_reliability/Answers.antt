@@ -52,8 +52,8 @@ loop-first-preserved c =
     let done = c.store_block.ensures in (
       omega arith,
       omega (arith, c.loop-first.invariant.1),
-      done.1,
-      done.0,
+      done.rows_kept_2,
+      done.known_2,
       c.store_block.auto.0 ∙ c.loop-first.invariant.4,
     )
 

@@ -4,10 +4,10 @@ use native.Mathlib.Omega.{arith}
 use Rattle.patterns.proofs.put_row.Goals as goal
 
 pub slice_bounds-store-end : goal.slice_bounds-store-end
-slice_bounds-store-end c = sym c.well-formed.1.1.0.1.0.1
+slice_bounds-store-end c = sym c.well_formed.1.1.0.1.0.1
 
 pub store-requires : goal.store-requires
-store-requires c = omega (arith, c.well-formed.1.1.0.1.0.1)
+store-requires c = omega (arith, c.well_formed.1.1.0.1.0.1)
 
 pub returns : goal.returns
-returns c = (c.store.ensures, c.well-formed.1.1.0.1.0.1)
+returns c = (c.store.ensures, c.well_formed.1.1.0.1.0.1)

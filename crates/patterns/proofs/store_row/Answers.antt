@@ -13,7 +13,7 @@ use Rattle.patterns.proofs.store_row.Goals as goal
 
 pub overflow_mul-start : goal.overflow_mul-start
 overflow_mul-start c =
-    omega (arith, c.requires.values_from.0.1)
+    omega (arith, c.requires.values_from.1)
 
 pub inputs-requires : goal.inputs-requires
 inputs-requires c = omega (arith, c.requires.workable.0.net.long)
@@ -25,16 +25,16 @@ pub returns-then-pattern_count-start : goal.returns-then-pattern_count-start
 returns-then-pattern_count-start c =
     let a = c.args in
     let many = c.pattern_count.ensures.0 ∙ ap (λ (n : ℕ). 2 ^ n) c.inputs.ensures in
-    let past : 2 ^ inputs a.area.now ≤ row_length * a.number = omega (arith, many, c.if-pattern_count-start.true) in record { known_2 = past-known a.area.now a.figures.now (row_length * a.number) (row_length * (a.number + 1)) past c.requires.values_from.1.1; rows_kept_2 = c.requires.values_from.1.0 }
+    let past : 2 ^ inputs a.area.now ≤ row_length * a.number = omega (arith, many, c.if-pattern_count-start.true) in record { known_2 = past-known a.area.now a.figures.now (row_length * a.number) (row_length * (a.number + 1)) past c.requires.known; rows_kept_2 = c.requires.rows_kept }
 
 pub work_rows-requires : goal.work_rows-requires
-work_rows-requires c = record { workable = c.requires.workable; values_from = (c.requires.values_from.0.0, omega (arith, c.if-pattern_count-start.false, c.pattern_count.ensures.2)); rows_kept = c.requires.values_from.1.0 }
+work_rows-requires c = record { workable = c.requires.workable; values_from = (c.requires.values_from.0, omega (arith, c.if-pattern_count-start.false, c.pattern_count.ensures.2)); rows_kept = c.requires.rows_kept }
 
 pub reliability_row-requires : goal.reliability_row-requires
 reliability_row-requires c =
     let a = c.args in
     let worked = c.work_rows.ensures in
-    (c.requires.workable.0.net, outputs_fit a.area.now c.requires.workable.0 (row_length * a.number) _ worked.1 worked.0)
+    (c.requires.workable.0.net, outputs_fit a.area.now c.requires.workable.0 (row_length * a.number) _ worked.rows_kept_2 worked.block)
 
 pub put_row-requires : goal.put_row-requires
 put_row-requires c =
@@ -42,7 +42,7 @@ put_row-requires c =
       arith,
       c.if-pattern_count-start.false,
       c.pattern_count.ensures.2,
-      c.requires.values_from.1.1.long,
+      c.requires.known.long,
     )
 
 pub returns : goal.returns
@@ -53,11 +53,11 @@ returns c =
     let made = c.reliability_row in
     let left = c.work_rows.new.rows in
     let each : (l : ℕ) → l < row_length → start + l < 2 ^ inputs a.area.now → get_or made.result l 0 ≡ reliability_for a.area.now (start + l)
-    = λ l less inside. made.ensures.each_entry l less ∙ row-product a.area.now c.requires.workable.0 start _ worked.1 worked.0 l less inside in
+    = λ l less inside. made.ensures.each_entry l less ∙ row-product a.area.now c.requires.workable.0 start _ worked.rows_kept_2 worked.block l less inside in
     let known = row-known a.area.now a.figures.now made.result a.number
     (omega (
       arith,
       c.if-pattern_count-start.false,
       c.pattern_count.ensures.2,
     ))
-    c.put_row.ensures.1 c.requires.values_from.1.1 each in record { known_2 = rw c.put_row.ensures.0 known; rows_kept_2 = (worked.1, held-block a.area.now a.unseen.now left c.requires.workable.0.net c.requires.workable.2 a.number worked.0) }
+    c.put_row.ensures.1 c.requires.known each in record { known_2 = rw c.put_row.ensures.0 known; rows_kept_2 = (worked.rows_kept_2, held-block a.area.now a.unseen.now left c.requires.workable.0.net c.requires.workable.2 a.number worked.block) }

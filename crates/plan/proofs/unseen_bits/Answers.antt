@@ -54,7 +54,7 @@ pub loop-gate-preserved : goal.loop-gate-preserved
 loop-gate-preserved c =
     let l = c.loop-gate in
     let made = c.gate_bits.ensures in
-    (omega arith, rw (place (goal.at.loop-gate-preserved c).In-loop-gate) (gate-more c.args.area.now c.requires l.unseen l.gate _ (inside (goal.at.loop-gate-preserved c).In-loop-gate) l.invariant.1 made.0 made.1))
+    (omega arith, rw (place (goal.at.loop-gate-preserved c).In-loop-gate) (gate-more c.args.area.now c.requires l.unseen l.gate _ (inside (goal.at.loop-gate-preserved c).In-loop-gate) l.invariant.1 made.upper_bound made.by_index))
 
 pub returns : goal.returns
 returns c =

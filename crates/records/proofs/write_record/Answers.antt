@@ -18,7 +18,7 @@ returns c =
     let a = c.args in
     c.store.ensures
     ∙ ap (sets a.bytes.now a.at)
-    (together a.kind a.table a.p a.q a.r a.s a.t5
+    (together a.kind a.table a.p a.q a.r a.s a.field
     c.byte.ensures
     c.low.ensures
     c.high.ensures

@@ -16,10 +16,10 @@ pub loop-i-init : goal.loop-i-init
 loop-i-init c = (omega arith, begin _ _ _ _ _ _ _ _ _)
 
 pub find_word-number-requires : goal.find_word-number-requires
-find_word-number-requires c = record { places = c.requires.places.0; k_in_bounds = (omega (arith, c.requires.places_2.0.0.within, c.loop-i-test.true), c.requires.places_2.0.0.inside _ (omega (arith, c.loop-i-test.true))) }
+find_word-number-requires c = record { places = c.requires.places.0; k_in_bounds = (omega (arith, c.requires.places_2.0.within, c.loop-i-test.true), c.requires.places_2.0.inside _ (omega (arith, c.loop-i-test.true))) }
 
 pub line-requires : goal.line-requires
-line-requires c = omega (arith, c.requires.places_2.0.1, c.loop-i-test.true)
+line-requires c = omega (arith, c.requires.places_2.1, c.loop-i-test.true)
 
 pub returns-then-number-many : goal.returns-then-number-many
 returns-then-number-many c =
@@ -27,7 +27,7 @@ returns-then-number-many c =
     let l = c.loop-i in
     let a = c.args in record {
       by_index = λ ls. ap (Refused 19) c.line.ensures ∙ stops a.text.now a.names.now a.many a.starts.now a.lines.now a.start a.count _ a.base l.table l.i
-          l.invariant.1 c.loop-i-test.true c.requires.places_2.1 at-find-word.result at-find-word.ensures.0 c.if-number-many.true ls;
+          l.invariant.1 c.loop-i-test.true c.requires.count_in_bounds at-find-word.result at-find-word.ensures.0 c.if-number-many.true ls;
       found = refused-not-fine _ _;
     }
 
@@ -37,7 +37,7 @@ overflow_cast-table c =
 
 pub bounds-table-base : goal.bounds-table-base
 bounds-table-base c =
-    omega (arith, c.loop-i.invariant.1.found.kept.long, c.requires.places_2.1, c.loop-i-test.true)
+    omega (arith, c.loop-i.invariant.1.found.kept.long, c.requires.count_in_bounds, c.loop-i-test.true)
 
 pub loop-i-preserved : goal.loop-i-preserved
 loop-i-preserved c =
@@ -45,7 +45,7 @@ loop-i-preserved c =
     let a = c.args in (
       omega arith,
       turn a.text.now a.names.now a.many a.starts.now a.lines.now a.start a.count _ a.base l.table l.i
-          l.invariant.1 c.loop-i-test.true c.requires.places_2.1 c.find_word-number.result c.find_word-number.ensures.0 (below c.find_word-number.result a.many c.find_word-number.ensures.1 c.if-number-many.false),
+          l.invariant.1 c.loop-i-test.true c.requires.count_in_bounds c.find_word-number.result c.find_word-number.ensures.0 (below c.find_word-number.result a.many c.find_word-number.ensures.1 c.if-number-many.false),
     )
 
 pub returns : goal.returns

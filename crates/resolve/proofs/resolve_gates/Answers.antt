@@ -13,28 +13,28 @@ use Rattle.resolve.proofs.resolve_gates.Goals as goal
 
 pub loop-j-init : goal.loop-j-init
 loop-j-init c =
-    (omega arith, begin _ _ _ _ _ _ _ _ _ c.requires.places_2.1.1.0 c.requires.places_2.1.1.1, refl, refl)
+    (omega arith, begin _ _ _ _ _ _ _ _ _ c.requires.room.0 c.requires.room.1, refl, refl)
 
 pub entry-requires : goal.entry-requires
-entry-requires c = omega (arith, c.requires.places_2.1.0.1, c.loop-j-test.true)
+entry-requires c = omega (arith, c.requires.gates_le_most_gates.1, c.loop-j-test.true)
 
 pub resolve_gate-requires : goal.resolve_gate-requires
 resolve_gate-requires c =
     let at-loop-test = c.loop-j-test in
     let l = c.loop-j in
-    let headed = c.requires.places_2.1.0.2 in record { places = c.requires.places; places_2 = c.requires.places_2.0; head_lt_n = rw c.entry.ensures (headed.inside l.j at-loop-test.true, (headed.fits l.j at-loop-test.true).0, (headed.fits l.j at-loop-test.true).1); gate_lt_most_gates = (omega (arith, c.requires.places_2.1.0.0, at-loop-test.true), l.invariant.1.room) }
+    let headed = c.requires.gates_le_most_gates.2 in record { places = c.requires.places; places_2 = c.requires.places_2; head_lt_n = rw c.entry.ensures (headed.inside l.j at-loop-test.true, (headed.fits l.j at-loop-test.true).0, (headed.fits l.j at-loop-test.true).1); gate_lt_most_gates = (omega (arith, c.requires.gates_le_most_gates.0, at-loop-test.true), l.invariant.1.room) }
 
 pub loop-j-preserved : goal.loop-j-preserved
 loop-j-preserved c =
     let at-loop-test = c.loop-j-test in
     let l = c.loop-j in
     let a = c.args in
-    let headed = c.requires.places_2.1.0.2 in
+    let headed = c.requires.gates_le_most_gates.2 in
     let told = c.in-Fine.is in
     let e = rw c.entry.ensures at c.resolve_gate.ensures in (
       omega arith,
       turn a.text.now a.names.now a.many a.starts.now a.lines.now a.n a.heads.now l.pins l.counts l.j l.invariant.1
-          (omega (arith, c.requires.places_2.1.0.0, at-loop-test.true)) (headed.inside l.j at-loop-test.true) (headed.fits l.j at-loop-test.true).1
+          (omega (arith, c.requires.gates_le_most_gates.0, at-loop-test.true)) (headed.inside l.j at-loop-test.true) (headed.fits l.j at-loop-test.true).1
           _ _ (λ ls. sym told ∙ e.0 ls) (e.1.0 told) e.1.1,
       (e.1.0 told).kept.long ∙ l.invariant.2,
       ap length e.1.1 ∙ length-set l.counts l.j _ ∙ l.invariant.3,

@@ -37,7 +37,7 @@ past-outputs c b = passed _ (gates-passed (record { before = c.before.before.bef
 -- the pattern is held to a shift
 shift : (c : After-inputs) → 1 * 2 ^ c.inputs.result % 2 ^ 32 ≡ 2 ^ inputs (words c.before.before.before.before.before.before.before.before)
 shift c =
-    rw c.inputs.ensures (shifted (inputs (words c.before.before.before.before.before.before.before.before)) c.requires.area_bound.0)
+    rw c.inputs.ensures (shifted (inputs (words c.before.before.before.before.before.before.before.before)) c.requires.area_bound)
 
 pattern-passed : (c : Else-area-inputs) → Pattern (words c.before.before.before.before.before.before.before.before.before) ≡ true
 pattern-passed c = lt-ltb _ _ (rw (shift (record { before = c.before.before; type_inv = record { area = c.shared_slice_known-2-1.given } })) at c.if-area-inputs.false)

@@ -14,7 +14,7 @@ returns-in-0 c = rw c.in-0.is c.answer_none.ensures
 -- the words as the list that they make, so far as they are used
 module _ (s : Start) where
   listed : (l k : ℕ) → answer s.args.table (first-lanes l k s.args.pins) ≡ answer s.args.table (pin_lanes l k s.args.pins)
-  listed l k = ap (answer s.args.table) (lanes-of l k s.args.pins s.well-formed.1.1.0.1.0.1)
+  listed l k = ap (answer s.args.table) (lanes-of l k s.args.pins s.well_formed.1.1.0.1.0.1)
 
 pub returns-in-1 : goal.returns-in-1
 returns-in-1 c = rw c.in-1.is (c.answer_one.ensures l less ∙ listed (goal.at.returns-in-1 c).Start l 1)

@@ -7,7 +7,7 @@ use Rattle.signals.proofs.sensitive_word.Goals as goal
 
 pub returns : goal.returns
 returns c =
-    let four : length c.args.pins ≡ 4 = c.well-formed.1.1.0.1.0.1 in
+    let four : length c.args.pins ≡ 4 = c.well_formed.1.1.0.1.0.1 in
     sensitive-lane l c.args.table c.args.count c.args.pin c.answer.result c.args.right c.args.pins less
     c.requires.count_le_most_pins.1
     (omega (arith, c.requires.count_le_most_pins.0, c.requires.count_le_most_pins.1))

@@ -3,7 +3,6 @@ use Prim.Native.Nat.{◌-◌}
 use mathlib.Core.Path.{refl, sym, ◌∙◌}
 use native.Mathlib.Omega.{arith}
 use native.Mathlib.Nat.{add-zero, sub-zero}
-use borrow.Author.Tests.{not-true, not-false}
 use Rattle.statements.proofs.Lines.{names_more, names-stop, names-end}
 use borrow.Author.Rules.{rules}
 use Rattle.statements.proofs.all_names.Goals as goal
@@ -21,13 +20,13 @@ pub returns-then-not-name_at : goal.returns-then-not-name_at
 returns-then-not-name_at c =
     let l = c.loop-i in
     let a = c.args in
-    sym (sym l.invariant.1 ∙ names-stop a.text.now a.starts.now a.from a.many l.i (search rules) (sym c.name_at.ensures ∙ not-true _ c.if-not-name_at.true))
+    sym (sym l.invariant.1 ∙ names-stop a.text.now a.starts.now a.from a.many l.i (search rules) (sym c.name_at.ensures ∙ c.if-not-name_at.true))
 
 pub loop-i-preserved : goal.loop-i-preserved
 loop-i-preserved c =
     let l = c.loop-i in
     let a = c.args in
-    (omega arith, sym (names_more a.text.now a.starts.now a.from a.many l.i (search rules) (sym c.name_at.ensures ∙ not-false _ c.if-not-name_at.false)) ∙ l.invariant.1)
+    (omega arith, sym (names_more a.text.now a.starts.now a.from a.many l.i (search rules) (sym c.name_at.ensures ∙ c.if-not-name_at.false)) ∙ l.invariant.1)
 
 pub returns : goal.returns
 returns c =

@@ -4,7 +4,6 @@ use mathlib.Core.Path.{refl, ap, sym, ◌∙◌}
 use native.Mathlib.Omega.{arith}
 use lib.ListN.{length}
 use borrow.Author.Rules.{rules}
-use borrow.Author.Tests.{not-true, not-false}
 use Rattle.texts.proofs.Words.{word_more, word_over, word_end}
 use Rattle.texts.proofs.word_end.Goals as goal
 
@@ -15,14 +14,14 @@ pub returns-then-not-word_at : goal.returns-then-not-word_at
 returns-then-not-word_at c =
     let l = c.loop-at in
     let t = c.args.text.now in
-    omega (arith, ap length (word_over t l.at (search rules) (sym c.word_at.ensures ∙ not-true _ c.if-not-word_at.true)))
+    omega (arith, ap length (word_over t l.at (search rules) (sym c.word_at.ensures ∙ c.if-not-word_at.true)))
 
 pub loop-at-preserved : goal.loop-at-preserved
 loop-at-preserved c =
     let l = c.loop-at in
     let t = c.args.text.now in (
       omega arith,
-      omega (arith, ap length (word_more t l.at (search rules) (sym c.word_at.ensures ∙ not-false _ c.if-not-word_at.false))),
+      omega (arith, ap length (word_more t l.at (search rules) (sym c.word_at.ensures ∙ c.if-not-word_at.false))),
     )
 
 pub returns : goal.returns

@@ -11,7 +11,7 @@ use Rattle.work.proofs.gate_figure.Goals as goal
 
 pub pins_word-requires : goal.pins_word-requires
 pins_word-requires c =
-    let e = c.split_pins-pins.ensures in record { count_bound = (e.0.0, omega (arith, c.flip.ensures, c.requires.workable.figures.flip_fits c.args.gate c.requires.gate_bound)); bits_bound = e.1.fits; by_index = e.0.1 }
+    let e = c.split_pins-pins.ensures in record { count_bound = (e.kept_le_most_pins.0, omega (arith, c.flip.ensures, c.requires.workable.figures.flip_fits c.args.gate c.requires.gate_bound)); bits_bound = e.split.fits; by_index = e.kept_le_most_pins.1 }
 
 pub returns : goal.returns
 unfolding gate_figure gate_word_from

@@ -21,15 +21,15 @@ module _ (c : After-store_flip) where
   flipped-workable : Workable flipped
   flipped-workable =
       subst Workable (sym c.store_flip.ensures)
-      (workable-store-flip c.args.area.now c.args.gate c.args.units c.requires.workable c.requires.gate_bound.0 c.requires.gate_bound.1)
+      (workable-store-flip c.args.area.now c.args.gate c.args.units c.requires.workable c.requires.gate_bound c.requires.units_le_largest_flip)
 
   flipped_below : c.args.gate < gates flipped
   flipped_below =
       omega (
         arith,
         ap gates c.store_flip.ensures,
-        same_gates _ _ (same-store-flip c.args.area.now c.args.gate c.args.units c.requires.gate_bound.0),
-        c.requires.gate_bound.0,
+        same_gates _ _ (same-store-flip c.args.area.now c.args.gate c.args.units c.requires.gate_bound),
+        c.requires.gate_bound,
       )
 
 -- and with the gate worked out
@@ -58,7 +58,7 @@ left c =
     c.work_reliability.ensures
     ∙ set_is c.args.area.now c.mark_of.result (worked c.before.before.before.before.before.before.before.before.before.before.before.before) c.work_marked.new.area c.args.gate c.args.units
     (inputs.result + c.args.gate)
-    c.requires.gate_bound.0
+    c.requires.gate_bound
     (ap (λ (n : ℕ). n + c.args.gate) inputs.ensures)
     c.mark_of.ensures
     (c.work_gate.ensures ∙ ap (λ (ws : List ℕ). work_gate ws c.args.gate) c.store_flip.ensures)

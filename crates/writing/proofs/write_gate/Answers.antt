@@ -19,42 +19,42 @@ use Rattle.writing.proofs.write_gate.Goals as goal
 
 pub entry-count-requires : goal.entry-count-requires
 entry-count-requires c =
-    let p = c.requires.placeable.0 in
+    let p = c.requires.placeable in
     omega (arith, p.0.counts_long, p.1)
 
 pub entry-head-requires : goal.entry-head-requires
-entry-head-requires c = c.requires.placeable.1.0.0
+entry-head-requires c = c.requires.gate_in_bounds.0
 
 pub line_rest-requires : goal.line_rest-requires
 line_rest-requires c =
     let p = c.requires in
-    (rw c.entry-head.ensures p.placeable.1.0.1, p.words.numbered)
+    (rw c.entry-head.ensures p.gate_in_bounds.1, p.words.numbered)
 
 -- the words of the line stand among n
 pub overflow_add-from : goal.overflow_add-from
 overflow_add-from c =
     let a = c.args in
     let e = c.entry-head in
-    let low : c.entry-head.result < a.n = rw e.ensures c.requires.placeable.1.0.1 in
+    let low : c.entry-head.result < a.n = rw e.ensures c.requires.gate_in_bounds.1 in
     omega (arith, c.requires.words.few, shorter a.text.now a.starts.now a.lines.now a.n e.result c.line_rest.result low c.line_rest.ensures)
 
 pub overflow_add-from-2 : goal.overflow_add-from-2
 overflow_add-from-2 c =
     let a = c.args in
     let e = c.entry-head in
-    let low : c.entry-head.result < a.n = rw e.ensures c.requires.placeable.1.0.1 in
+    let low : c.entry-head.result < a.n = rw e.ensures c.requires.gate_in_bounds.1 in
     omega (arith, c.requires.words.few, shorter a.text.now a.starts.now a.lines.now a.n e.result c.line_rest.result low c.line_rest.ensures)
 
 pub table-table-requires : goal.table-table-requires
 table-table-requires c =
     let a = c.args in
     let e = c.entry-head in
-    let low : c.entry-head.result < a.n = rw e.ensures c.requires.placeable.1.0.1 in (
+    let low : c.entry-head.result < a.n = rw e.ensures c.requires.gate_in_bounds.1 in (
       c.requires.words.places,
       c.requires.words.numbered,
       c.requires.words.few,
       omega (arith, shorter a.text.now a.starts.now a.lines.now a.n e.result c.line_rest.result low c.line_rest.ensures),
-      rw c.entry-count.ensures (c.requires.placeable.0.0.counted _),
+      rw c.entry-count.ensures (c.requires.placeable.0.counted _),
     )
 
 -- what each pin asks
@@ -65,31 +65,31 @@ pin-known {gate = gate} p e = (p.0.pinned, p.1, rw e (p.0.counted gate))
 pub pin-first-requires : goal.pin-first-requires
 pin-first-requires c =
     pin-known
-    c.requires.placeable.0
+    c.requires.placeable
     c.entry-count.ensures
 
 pub pin-second-requires : goal.pin-second-requires
 pin-second-requires c =
     pin-known
-    c.requires.placeable.0
+    c.requires.placeable
     c.entry-count.ensures
 
 pub pin-third-requires : goal.pin-third-requires
 pin-third-requires c =
     pin-known
-    c.requires.placeable.0
+    c.requires.placeable
     c.entry-count.ensures
 
 pub pin-fourth-requires : goal.pin-fourth-requires
 pin-fourth-requires c =
     pin-known
-    c.requires.placeable.0
+    c.requires.placeable
     c.entry-count.ensures
 
 pub write_record-requires : goal.write_record-requires
 write_record-requires c =
     let at_entry_lem = c.entry-count in
-    let p = c.requires.placeable in
+    let p = (c.requires.placeable, c.requires.gate_in_bounds, c.requires.record_bytes_in_bounds) in
     let few : at_entry_lem.result ≤ most_pins = rw at_entry_lem.ensures (p.0.0.counted _) in record {
       record_bytes_in_bounds = p.1.1;
       count_bound = (

@@ -16,20 +16,20 @@ loop-q-init c = (omega arith, refl, refl)
 
 pub entry-gate-requires : goal.entry-gate-requires
 entry-gate-requires c =
-    let o = c.requires.placeable.1.0 in
+    let o = c.requires.ordered in
     omega (arith, o.few, o.long, c.loop-q-test.true)
 
 pub overflow_mul-q : goal.overflow_mul-q
-overflow_mul-q c = omega (arith, c.requires.placeable.1.0.few, c.loop-q-test.true)
+overflow_mul-q c = omega (arith, c.requires.ordered.few, c.loop-q-test.true)
 
 pub write_gate-requires : goal.write_gate-requires
 write_gate-requires c =
     let at-loop-test = c.loop-q-test in
     let l = c.loop-q in
     let p = c.requires in
-    let o = p.placeable.1.0 in
+    let o = p.ordered in
     let low = o.ordered l.q at-loop-test.true in
-    let e = c.entry-gate.ensures in record { words = p.words; placeable = (p.placeable.0, rw e (omega (arith, low, o.few))); gate_in_bounds = (rw e (omega (arith, low, o.headed)), rw e (o.inside _ low)); record_bytes_in_bounds = omega (arith, at-loop-test.true, l.invariant.1, p.placeable.1.1) }
+    let e = c.entry-gate.ensures in record { words = p.words; placeable = (p.placeable, rw e (omega (arith, low, o.few))); gate_in_bounds = (rw e (omega (arith, low, o.headed)), rw e (o.inside _ low)); record_bytes_in_bounds = omega (arith, at-loop-test.true, l.invariant.1, p.gates_in_bounds) }
 
 pub loop-q-preserved : goal.loop-q-preserved
 loop-q-preserved c =

@@ -13,12 +13,12 @@ use Rattle.writing.proofs.write_image.Goals as goal
 
 pub write_gates-requires : goal.write_gates-requires
 write_gates-requires c =
-    let p = c.requires in record { words = p.words; placeable = p.placeable.0; ordered = p.placeable.1.0; gates_in_bounds = omega (arith, p.placeable.1.1.1) }
+    let p = c.requires in record { words = p.words; placeable = p.placeable; ordered = p.ordered; gates_in_bounds = omega (arith, p.outputs_in_bounds_2) }
 
 pub write_outputs-requires : goal.write_outputs-requires
 write_outputs-requires c =
     let a = c.args in
-    let p = c.requires.placeable in
+    let p = (c.requires.placeable, c.requires.ordered, c.requires.outputs_in_bounds, c.requires.outputs_in_bounds_2) in
     let o = p.1.1.0 in
     let kept = ap length c.write_gates.ensures
     ∙ length-sets a.image.now 0 (joined (λ (q : ℕ). record_in a.text.now a.starts.now a.lines.now a.n a.heads.now a.pins.now
@@ -26,7 +26,7 @@ write_outputs-requires c =
 
 pub write_trailer-requires : goal.write_trailer-requires
 write_trailer-requires c =
-    let p = c.requires.placeable in record { trailer_bytes_in_bounds = search rules; inputs_bound = (omega (arith, p.0.pinned.sourced.few), omega (arith, p.1.0.few), omega (arith, p.1.1.0.2)) }
+    let p = (c.requires.placeable, c.requires.ordered, c.requires.outputs_in_bounds, c.requires.outputs_in_bounds_2) in record { trailer_bytes_in_bounds = search rules; inputs_bound = (omega (arith, p.0.pinned.sourced.few), omega (arith, p.1.0.few), omega (arith, p.1.1.0.2)) }
 
 pub returns : goal.returns
 unfolding held_net

@@ -12,31 +12,31 @@ use Rattle.writing.specs.Written.{output_in}
 use Rattle.writing.proofs.write_outputs.Goals as goal
 
 pub overflow_mul-base : goal.overflow_mul-base
-overflow_mul-base c = omega (arith, c.requires.outputs_in_bounds.0.2)
+overflow_mul-base c = omega (arith, c.requires.outputs_in_bounds.2)
 
 pub loop-k-init : goal.loop-k-init
 loop-k-init c = (omega arith, refl, refl)
 
 pub entry-requires : goal.entry-requires
-entry-requires c = omega (arith, c.requires.outputs_in_bounds.0.0, c.loop-k-test.true)
+entry-requires c = omega (arith, c.requires.outputs_in_bounds.0, c.loop-k-test.true)
 
 pub source_of-source-requires : goal.source_of-source-requires
 source_of-source-requires c =
     let p = c.requires in
-    (p.sourced, rw c.entry.ensures (p.outputs_in_bounds.0.1 _))
+    (p.sourced, rw c.entry.ensures (p.outputs_in_bounds.1 _))
 
 pub overflow_mul-k : goal.overflow_mul-k
-overflow_mul-k c = omega (arith, c.requires.outputs_in_bounds.0.3, c.loop-k-test.true)
+overflow_mul-k c = omega (arith, c.requires.outputs_in_bounds.3, c.loop-k-test.true)
 
 pub overflow_add-base : goal.overflow_add-base
 overflow_add-base c =
-    let p = c.requires.outputs_in_bounds.0 in
+    let p = c.requires.outputs_in_bounds in
     omega (arith, p.2, p.3, c.loop-k-test.true)
 
 pub write_output-requires : goal.write_output-requires
 write_output-requires c =
     let l = c.loop-k in
-    (omega (arith, c.loop-k-test.true, l.invariant.1, c.requires.outputs_in_bounds.1), c.source_of-source.ensures.1)
+    (omega (arith, c.loop-k-test.true, l.invariant.1, c.requires.outputs_in_bounds_2), c.source_of-source.ensures.1)
 
 pub loop-k-preserved : goal.loop-k-preserved
 loop-k-preserved c =
