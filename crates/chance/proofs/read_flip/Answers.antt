@@ -1,5 +1,6 @@
 -- `chance::read_flip` meets its contract: each kind's field is read by its own function, and a kind above 2 is refused. Assumes nothing.
 use Prim.Native.Nat.{ℕ, zero, suc}
+use native.Mathlib.Omega.{arith}
 use mathlib.Core.Path.{◌≡◌, refl, sym, ap, ◌∙◌}
 use mathlib.Core.List.{List}
 use lib.Dec.{eqb}
@@ -40,4 +41,4 @@ returns-in-2 c =
     ∙ ap (λ (kind : ℕ). read_flip kind field) (sym c.in-2.is)
 
 pub returns-in_default : goal.returns-in_default
-returns-in_default c = no_kind c.args.kind c.args.field c.in_default.rest.0.0.1 c.in_default.rest.0.1 c.in_default.rest.1
+returns-in_default c = no_kind c.args.kind c.args.field (λ e. omega arith) (λ e. omega arith) (λ e. omega arith)

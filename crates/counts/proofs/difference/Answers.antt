@@ -5,14 +5,14 @@ use Rattle.counts.proofs.Changes.{unchanged-answer, changed-difference}
 use Rattle.counts.proofs.difference.Goals as goal
 
 pub returns-then-by-eq0 : goal.returns-then-by-eq0
-returns-then-by-eq0 c =
+returns-then-by-eq0 c l less =
     let at-pin-words = c.pin_words-by in
     let a = c.args in
     unchanged-answer a.area.now a.words.now a.changed.now at-pin-words.result c.requires.net_sound.0 a.gate c.requires.net_sound.1
     at-pin-words.ensures c.if-by-eq0.true l
 
 pub returns : goal.returns
-returns c =
+returns c l less =
     let at-pin-words = c.pin_words-by in
     let at-pin-words2 = c.pin_words-pins in
     let at-gate-answer = c.gate_answer in

@@ -10,7 +10,7 @@ use Rattle.counts.proofs.Windows.{by_order}
 use Rattle.counts.proofs.listed_lanes.Goals as goal
 
 pub returns-then-many-eq-LANES : goal.returns-then-many-eq-LANES
-returns-then-many-eq-LANES c = lane-all l less ∙ sym (lt-ltb l c.args.many (omega (arith, c.if-many-eq-LANES.true)))
+returns-then-many-eq-LANES c l less = lane-all l less ∙ sym (lt-ltb l c.args.many (omega (arith, c.if-many-eq-LANES.true)))
 
 pub overflow_sub-result : goal.overflow_sub-result
 overflow_sub-result c =
@@ -18,7 +18,7 @@ overflow_sub-result c =
     rw (shl_exact {a = 1} 1 many 64 (omega arith) (omega arith)) (omega (arith, pow_pos many))
 
 pub returns : goal.returns
-returns c =
+returns c l less =
     let many = c.args.many in
     rw (shl_exact {a = 1} 1 many 64 (omega arith) (omega arith), one-mul)
     (by_order l many (λ below. ones_below many l below ∙ sym (lt-ltb l many below)) (λ past. ones-past many l past ∙ sym (le-ltb l many past)))

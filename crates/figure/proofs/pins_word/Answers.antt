@@ -8,29 +8,29 @@ word_none-requires c = (omega (arith, c.requires.bits_bound), c.requires.count_b
 
 pub word_one-requires : goal.word_one-requires
 word_one-requires c =
-    let ready = rw c.in-1.is at (c.requires.bits_bound, c.requires.by_index) in record { bits_bound = (ready.0, c.requires.count_bound.1); by_index = ready.1 }
+    record { bits_bound = (rw c.in-1.is at c.requires.bits_bound, c.requires.count_bound.1); by_index = rw c.in-1.is at c.requires.by_index }
 
 pub word_two-requires : goal.word_two-requires
 word_two-requires c =
-    let ready = rw c.in-2.is at (c.requires.bits_bound, c.requires.by_index) in record { bits_bound = (ready.0, c.requires.count_bound.1); by_index = ready.1 }
+    record { bits_bound = (rw c.in-2.is at c.requires.bits_bound, c.requires.count_bound.1); by_index = rw c.in-2.is at c.requires.by_index }
 
 pub word_three-requires : goal.word_three-requires
 word_three-requires c =
-    let ready = rw c.in-3.is at (c.requires.bits_bound, c.requires.by_index) in record { bits_bound = (ready.0, omega arith); by_index = ready.1 }
+    record { bits_bound = (rw c.in-3.is at c.requires.bits_bound, omega arith); by_index = rw c.in-3.is at c.requires.by_index }
 
 pub word_three-requires-else-flip-eq0 : goal.word_three-requires-else-flip-eq0
 word_three-requires-else-flip-eq0 c =
-    let ready = rw c.in-3.is at (c.requires.bits_bound, c.requires.by_index) in record { bits_bound = (ready.0, c.requires.count_bound.1); by_index = ready.1 }
+    record { bits_bound = (rw c.in-3.is at c.requires.bits_bound, c.requires.count_bound.1); by_index = rw c.in-3.is at c.requires.by_index }
 
 pub word_four-requires : goal.word_four-requires
 word_four-requires c =
     let all : c.args.count ≡ 4 = omega arith in
-    let ready = rw all at (c.requires.bits_bound, c.requires.by_index) in record { bits_bound = (ready.0, omega arith); by_index = ready.1 }
+    record { bits_bound = (rw all at c.requires.bits_bound, omega arith); by_index = rw all at c.requires.by_index }
 
 pub word_four-requires-else-flip-eq0-2 : goal.word_four-requires-else-flip-eq0-2
 word_four-requires-else-flip-eq0-2 c =
     let all : c.args.count ≡ 4 = omega arith in
-    let ready = rw all at (c.requires.bits_bound, c.requires.by_index) in record { bits_bound = (ready.0, c.requires.count_bound.1); by_index = ready.1 }
+    record { bits_bound = (rw all at c.requires.bits_bound, c.requires.count_bound.1); by_index = rw all at c.requires.by_index }
 
 pub returns-in-0 : goal.returns-in-0
 returns-in-0 c = rw c.in-0.is c.word_none.ensures

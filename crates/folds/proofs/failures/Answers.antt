@@ -10,7 +10,7 @@ use Rattle.folds.proofs.Last.{last_fits, lowest-before, right-for, failure-made,
 use Rattle.folds.proofs.failures.Goals as goal
 
 pub returns-then-end-eq0 : goal.returns-then-end-eq0
-returns-then-end-eq0 c =
+returns-then-end-eq0 c l less =
     let at-flip = c.flip-flip in
     let a = c.args in
     get_or-replicate row_length l at-flip.result 0 less
@@ -46,7 +46,7 @@ gate_row-requires c =
     )
 
 pub returns : goal.returns
-returns c =
+returns c l less =
     let at-failing-end = c.failing_end-end in
     let at-gate-word = c.gate_word-right in
     let at-pin-words = c.pin_words-pins in

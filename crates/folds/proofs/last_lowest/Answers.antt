@@ -31,7 +31,7 @@ first_row-requires c =
     c.Load-row.result (rw c.pin.ensures at c.Load-row.ensures)
 
 pub returns : goal.returns
-returns c =
+returns c l less =
     let at-inverted = c.inverted-wrong in
     let at_pin = c.pin in
     let at-wrong-lanes = c.wrong_lanes in

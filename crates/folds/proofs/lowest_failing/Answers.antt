@@ -39,4 +39,4 @@ loop-i-preserved c =
     )
 
 pub returns : goal.returns
-returns c = c.loop-i.invariant.1 i (omega arith)
+returns c i less = c.loop-i.invariant.1 i (omega arith)

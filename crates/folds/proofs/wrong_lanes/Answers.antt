@@ -13,7 +13,7 @@ use Rattle.rows.proofs.Lanes.{half-lane}
 use Rattle.folds.proofs.wrong_lanes.Goals as goal
 
 pub returns : goal.returns
-returns c =
+returns c l less =
     let at = c.args.shift + l in
     let found = c.gate_answer.result in
     half-lane c.args.shift l (bit_xor found c.args.right) less

@@ -11,7 +11,7 @@ pub overflow_sub-text : goal.overflow_sub-text
 overflow_sub-text c = c.requires
 
 pub returns-then-text-start : goal.returns-then-text-start
-returns-then-text-start c =
+returns-then-text-start c e =
     let a = c.args in
     text-short (drop a.start a.text.now) a.w.now (rw length-drop c.if-text-start.true)
 
@@ -23,7 +23,7 @@ bounds-text-start c =
     omega (arith, c.requires, c.if-text-start.false, c.loop-left.invariant, c.loop-left-test.true)
 
 pub returns-then-text-start-2 : goal.returns-then-text-start-2
-returns-then-text-start-2 c =
+returns-then-text-start-2 c e =
     let a = c.args in
     let l = c.loop-left in
     differs_at a.text.now a.w.now a.start (l.left - 1) (omega (arith, l.invariant, c.loop-left-test.true)) c.if-text-start-2.true
@@ -32,13 +32,13 @@ pub loop-left-preserved : goal.loop-left-preserved
 loop-left-preserved c = omega (arith, c.loop-left.invariant)
 
 pub returns-then-end-text : goal.returns-then-end-text
-returns-then-end-text c = absurd (let z : ◌≡◌ {A = ℕ} 0 1 = cc in omega arith)
+returns-then-end-text c e = absurd (let z : ◌≡◌ {A = ℕ} 0 1 = cc in omega arith)
 
 pub bounds-text-end : goal.bounds-text-end
 bounds-text-end c =
     omega (arith, c.requires, c.if-text-start.false, c.if-end-text.false)
 
 pub returns : goal.returns
-returns c =
+returns c e =
     let on = sym c.name_byte.ensures ∙ not-false _ e in
     goes_on c.args.text.now c.args.w.now c.args.start (omega (arith, c.requires, c.if-text-start.false, c.if-end-text.false)) on

@@ -7,12 +7,10 @@ use Rattle.texts.specs.Words.{word_of}
 use Rattle.names.proofs.Names.{word-front, word-short}
 use Rattle.names.proofs.word.Goals as goal
 
--- LEFT
--- part-result-end : tie.Need-slice-bounds-result-end
--- part-result-end c =
---     let s = c.before.before in
---     let a = s.args in
---     omega (arith, c.word_end.ensures, word-short (drop a.start a.text.now), length-drop a.start a.text.now, s.requires)
+pub slice_bounds-result-end : goal.slice_bounds-result-end
+slice_bounds-result-end c =
+    let a = c.args in
+    omega (arith, c.word_end-end.ensures, word-short (drop a.start a.text.now), length-drop a.start a.text.now, c.requires)
 
 pub returns : goal.returns
 returns c =

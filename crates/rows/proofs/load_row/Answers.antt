@@ -16,4 +16,4 @@ loop-l-preserved c =
     fill-turn row_length _ l.row l.l _ l.invariant (omega arith) refl
 
 pub returns : goal.returns
-returns c = c.loop-l.invariant.2 l (omega arith)
+returns c l less = c.loop-l.invariant.2 l (omega arith)

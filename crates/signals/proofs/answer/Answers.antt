@@ -17,15 +17,15 @@ module _ (s : Start) where
   listed l k = ap (answer s.args.table) (lanes-of l k s.args.pins s.well_formed.1.1.0.1.0.1)
 
 pub returns-in-1 : goal.returns-in-1
-returns-in-1 c = rw c.in-1.is (c.answer_one.ensures l less ∙ listed (goal.at.returns-in-1 c).Start l 1)
+returns-in-1 c l less = rw c.in-1.is (c.answer_one.ensures l less ∙ listed (goal.at.returns-in-1 c).Start l 1)
 
 pub returns-in-2 : goal.returns-in-2
-returns-in-2 c = rw c.in-2.is (c.answer_two.ensures l less ∙ listed (goal.at.returns-in-2 c).Start l 2)
+returns-in-2 c l less = rw c.in-2.is (c.answer_two.ensures l less ∙ listed (goal.at.returns-in-2 c).Start l 2)
 
 pub returns-in-3 : goal.returns-in-3
-returns-in-3 c = rw c.in-3.is (c.answer_three.ensures l less ∙ listed (goal.at.returns-in-3 c).Start l 3)
+returns-in-3 c l less = rw c.in-3.is (c.answer_three.ensures l less ∙ listed (goal.at.returns-in-3 c).Start l 3)
 
 pub returns-in_default : goal.returns-in_default
-returns-in_default c =
+returns-in_default c l less =
     let all : c.args.count ≡ 4 = omega arith in
     rw all (c.answer_four.ensures l less ∙ listed (goal.at.returns-in_default c).Start l 4)

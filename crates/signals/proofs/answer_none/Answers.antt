@@ -3,4 +3,4 @@ use Rattle.signals.proofs.Answers.{answer-bare}
 use Rattle.signals.proofs.answer_none.Goals as goal
 
 pub returns : goal.returns
-returns c = answer-bare c.args.table l 0 less
+returns c l less = answer-bare c.args.table l 0 less

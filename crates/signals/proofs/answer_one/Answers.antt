@@ -8,6 +8,6 @@ use Rattle.signals.proofs.Answers.{answer-first}
 use Rattle.signals.proofs.answer_one.Goals as goal
 
 pub returns : goal.returns
-returns c =
+returns c l less =
     let a = c.args in
     ap (λ (by : List _). lane l (get_or by (a.table % 4) 0)) c.requires ∙ answer-first a.table l (get_or a.by.now 2 0) less

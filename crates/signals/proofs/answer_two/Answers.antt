@@ -7,7 +7,7 @@ use Rattle.signals.proofs.Answers.{by_last}
 use Rattle.signals.proofs.answer_two.Goals as goal
 
 pub returns : goal.returns
-returns c =
+returns c l less =
     let a = c.args in
     c.select.ensures l less
     ∙ by_last a.table (lane l (get_or a.by.now 2 0) ∷ []) (lane l a.second)

@@ -40,7 +40,7 @@ loop-l-preserved c =
     (omega arith, packed_more a.patterns.now a.input l.word (l.l - 1) (omega arith) packed)
 
 pub returns : goal.returns
-returns c =
+returns c l =
     let w = c.loop-l in
     let a = c.args in
     let end : w.l + l ≡ l = omega arith in

@@ -18,7 +18,7 @@ chosen false false true = refl
 chosen false false false = refl
 
 pub returns : goal.returns
-returns c =
+returns c l less =
     let zero = c.args.zero in
     let one = c.args.one in
     let by = c.args.by in

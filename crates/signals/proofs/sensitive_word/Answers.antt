@@ -6,7 +6,7 @@ use Rattle.signals.proofs.Answers.{sensitive-lane}
 use Rattle.signals.proofs.sensitive_word.Goals as goal
 
 pub returns : goal.returns
-returns c =
+returns c l less =
     let four : length c.args.pins ≡ 4 = c.well_formed.1.1.0.1.0.1 in
     sensitive-lane l c.args.table c.args.count c.args.pin c.answer.result c.args.right c.args.pins less
     c.requires.count_le_most_pins.1
