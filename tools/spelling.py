@@ -14,7 +14,7 @@ import sys
 WORD = re.compile(r"[\w'][\w'-]*")
 CAMEL = re.compile(r"[a-z0-9][A-Z]")
 # Types, and names that would fall together with another in their scope.
-BY_HAND = {"pinsBelow": "PinsBelow", "getD-map-inside": "get_or-map-inside"}
+BY_HAND = {"pinsBelow": "GatePinsBelow", "getD-map-inside": "get_or-map-inside"}
 # A field that would fall together with the definition `pinCount`; where a call of `pin_count` is cited the name stays.
 FIELD = (re.compile(r"(?<![\w'-])(?<!before\.)(?<!\bc\.)pin-count(?![\w'.-])"), "few_pins")
 KEPT = {"eM"}

@@ -15,7 +15,7 @@ use Rattle.lists.specs.Lists.{count, Below, sum_below}
 use Rattle.lists.proofs.Sums.{sum_first, sum_same}
 use Rattle.lists.proofs.Every.{below-tail, AllFrom, all_head, all_tail}
 use Rattle.netlist.specs.Netlist.{Gate, Netlist, no_gate}
-use Rattle.netlist.specs.WellFormed.{PinsBelow, WellFormed}
+use Rattle.netlist.specs.WellFormed.{GatePinsBelow, WellFormed}
 use Rattle.netlist.specs.Live.{is_live, if_live, with_gate, live_reads_from, live_reads, readers, live_among, live_gates, SingleReaders}
 use Rattle.bound.specs.Sharp.{how_many, further_gates, gate_halves, error_halves}
 use Rattle.netlist.proofs.Live.{reads-with, count-later, among-step}
@@ -47,13 +47,13 @@ charge-total m outputs s (g ∷ gs) =
     twice (suc c) k = refl
 
 -- a charge of one for each live gate is the number of live gates
-pub live-total : (outputs : List ℕ) (s : ℕ) (gs : List Gate) → AllFrom no_gate PinsBelow s gs
+pub live-total : (outputs : List ℕ) (s : ℕ) (gs : List Gate) → AllFrom no_gate GatePinsBelow s gs
     → charges outputs (λ g. 1) s gs ≡ live_among (live_reads_from outputs s gs) s (length gs)
 live-total outputs s [] below = refl
 live-total outputs s (g ∷ gs) below =
     let later = live_reads_from outputs (suc s) gs in
-    ap (λ (k : ℕ). bit_of (is_live (count s later)) + k) (live-total outputs (suc s) gs (all_tail no_gate PinsBelow s g gs below))
-    ∙ sym (among-step s (length gs) g.pins later (all_head no_gate PinsBelow s g gs below))
+    ap (λ (k : ℕ). bit_of (is_live (count s later)) + k) (live-total outputs (suc s) gs (all_tail no_gate GatePinsBelow s g gs below))
+    ∙ sym (among-step s (length gs) g.pins later (all_head no_gate GatePinsBelow s g gs below))
 
 -- m says of a source that it may fail
 module _ (m : ℕ → Bool) where
@@ -105,20 +105,20 @@ module _ (m : ℕ → Bool) where
           at false false false (lt-leb s r (omega arith)) (lt-leb (suc s) r (omega arith)) (ne_eqb s r (λ q. omega arith)) (omega (arith, none (m s))))
 
   -- where each gate that may fail is read at most once, there is at most one read of such a gate for each live one
-  pub one-each-where : (outputs : List ℕ) (s : ℕ) (gs : List Gate) → AllFrom no_gate PinsBelow s gs → Below (s + length gs) outputs
+  pub one-each-where : (outputs : List ℕ) (s : ℕ) (gs : List Gate) → AllFrom no_gate GatePinsBelow s gs → Below (s + length gs) outputs
       → ((t : ℕ) → s ≤ t → t < s + length gs → m t ≡ true → count t (live_reads_from outputs s gs) ≤ 1)
       → how_many (sources_from s) (live_reads_from outputs s gs) ≤ live_where outputs s gs
   one-each-where outputs s [] below outs single = omega (arith, from-below s outputs (λ i l. omega (arith, outs i l)))
   one-each-where outputs s (g ∷ gs) below outs single =
       let later = live_reads_from outputs (suc s) gs in
-      let pins = all_head no_gate PinsBelow s g gs below in
+      let pins = all_head no_gate GatePinsBelow s g gs below in
       let same : (t : ℕ) → s ≤ t → count t (with_gate s g.pins later) ≡ count t later = λ t l. count-later t s g.pins later pins l in
       let others =
       one-each-where
       outputs
       (suc s)
       gs
-      (all_tail no_gate PinsBelow s g gs below)
+      (all_tail no_gate GatePinsBelow s g gs below)
       (λ i l. omega (arith, outs i l))
       (λ t l k h. omega (arith, single t (omega arith) (omega arith) h, same t (omega arith))) in
       omega (
@@ -139,7 +139,7 @@ module _ (m : ℕ → Bool) where
       once false c l = omega arith
 
 -- where each gate is read at most once, there is at most one read for each live gate
-pub one_each : (outputs : List ℕ) (s : ℕ) (gs : List Gate) → AllFrom no_gate PinsBelow s gs → Below (s + length gs) outputs
+pub one_each : (outputs : List ℕ) (s : ℕ) (gs : List Gate) → AllFrom no_gate GatePinsBelow s gs → Below (s + length gs) outputs
     → ((j : ℕ) → j < length gs → count (s + j) (live_reads_from outputs s gs) ≤ 1)
     → how_many (leb s) (live_reads_from outputs s gs) ≤ charges outputs (λ g. 1) s gs
 one_each outputs s gs below outs single =
@@ -161,17 +161,17 @@ one_each outputs s gs below outs single =
 -- ---- of a netlist
 
 -- the charges of the live gates, added up by their numbers
-charges-sum : (outputs : List ℕ) (charge : Gate → ℕ) (s : ℕ) (gs : List Gate) → AllFrom no_gate PinsBelow s gs
+charges-sum : (outputs : List ℕ) (charge : Gate → ℕ) (s : ℕ) (gs : List Gate) → AllFrom no_gate GatePinsBelow s gs
     → charges outputs charge s gs ≡ sum_below (length gs) (λ j. if_live (count (s + j) (live_reads_from outputs s gs)) (charge (get_or gs j no_gate)))
 charges-sum outputs charge s [] below = refl
 charges-sum outputs charge s (g ∷ gs) below =
     let later = live_reads_from outputs (suc s) gs in
-    let pins = all_head no_gate PinsBelow s g gs below in
+    let pins = all_head no_gate GatePinsBelow s g gs below in
     let same : (t : ℕ) → s ≤ t → count t (with_gate s g.pins later) ≡ count t later = λ t l. count-later t s g.pins later pins l in
     let here : if_live (count s later) (charge g) ≡ if_live (count (s + 0) (with_gate s g.pins later)) (charge g)
     = ap (λ (c : ℕ). if_live c (charge g)) (sym (ap (λ (t : ℕ). count t (with_gate s g.pins later)) (add-zero s) ∙ same s (le_refl s))) in
     let others =
-    charges-sum outputs charge (suc s) gs (all_tail no_gate PinsBelow s g gs below)
+    charges-sum outputs charge (suc s) gs (all_tail no_gate GatePinsBelow s g gs below)
     ∙ sum_same _ _ (length gs) (λ j l.
     let at : s + suc j ≡ suc s + j = omega arith in
     ap (λ (c : ℕ). if_live c (charge (get_or gs j no_gate)))

@@ -9,7 +9,7 @@ use Rattle.rounding.specs.Rounding.{round_div, blend, to_units}
 use Rattle.figure.specs.Figure.{answer, difference, start_values, gate_step, gate_failure, output_step}
 use Rattle.lists.proofs.Every.{below_holds}
 use Rattle.netlist.specs.Netlist.{gate_at, right_values}
-use Rattle.netlist.specs.WellFormed.{PinsBelow, WellFormed}
+use Rattle.netlist.specs.WellFormed.{GatePinsBelow, WellFormed}
 use Rattle.netlist.specs.Exact.{exact_sum}
 use Rattle.netlist.specs.Figures.{failures, reliability}
 use Rattle.netlist.specs.Live.{live_reads, readers, live_gates, SingleReaders}
@@ -21,7 +21,7 @@ use Rattle.bound.proofs.Average.{reliability-bound}
 pub forgiving-well : WellFormed 4 forgiving
 forgiving-well = record { pins_below = pins; chances = chances; outputs_below = below_holds 4 (3 ∷ []) refl }
   where
-    pins : (j : ℕ) → j < length forgiving.gates → PinsBelow (2 + j) (gate_at forgiving j)
+    pins : (j : ℕ) → j < length forgiving.gates → GatePinsBelow (2 + j) (gate_at forgiving j)
     pins zero l = below_holds 2 (0 ∷ []) refl
     pins (suc zero) l = below_holds 3 (2 ∷ 1 ∷ []) refl
     pins (suc (suc j)) l = absurd (omega arith)

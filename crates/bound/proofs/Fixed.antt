@@ -15,7 +15,7 @@ use Rattle.figure.specs.Figure.{bit_of, difference, gate_step, gate_failure}
 use Rattle.figure.proofs.Fold.{fold_over}
 use Rattle.netlist.specs.Netlist.{Gate, Netlist, no_gate, gate_at, pin_values, right_values, first_flip, other_flips}
 use Rattle.lists.specs.Lists.{count, Below}
-use Rattle.netlist.specs.WellFormed.{PinsBelow, WellFormed}
+use Rattle.netlist.specs.WellFormed.{GatePinsBelow, WellFormed}
 use Rattle.netlist.specs.Live.{live_reads_from, live_reads, readers, live_among, live_gates}
 use Rattle.suppose.specs.Suppose.{shared_gates, is_supposed, supposed_wrong, seen, supposed_failures, shared_steps, output_steps, supposed_figure}
 use Rattle.lists.proofs.Every.{AllFrom}
@@ -269,8 +269,8 @@ module _ (u d : ℕ) (posu : 0 < u) (posd : 0 < d) (net : Netlist) (well : WellF
       (shared-below (λ x. count x (live_reads_from net.outputs n net.gates)) G n)
       (kept-below sh σ (n + G) net.outputs well.outputs_below)
 
-  pins-left : AllFrom no_gate PinsBelow n gates
-  pins-left = cut_all sh σ PinsBelow PinsBelow (λ t g h. kept-below sh σ t g.pins h) n net.gates well.pins_below
+  pins-left : AllFrom no_gate GatePinsBelow n gates
+  pins-left = cut_all sh σ GatePinsBelow GatePinsBelow (λ t g h. kept-below sh σ t g.pins h) n net.gates well.pins_below
 
   -- three half units for each live gate
   total : charges outs charge n gates + (how_many is_gate outs - 1) ≤ 3 * live_gates net

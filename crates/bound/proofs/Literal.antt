@@ -13,7 +13,7 @@ use Rattle.figure.specs.Figure.{invert_if, inverted, answer}
 use Rattle.lists.specs.Lists.{Below}
 use Rattle.lists.proofs.Every.{below-tail, AllFrom, all_head, all_tail}
 use Rattle.netlist.specs.Netlist.{Gate, no_gate, pin_values, values}
-use Rattle.netlist.specs.WellFormed.{PinsBelow}
+use Rattle.netlist.specs.WellFormed.{GatePinsBelow}
 use Rattle.netlist.specs.Exact.{sum_over_flips, pattern_chance, outputs_agree}
 use Rattle.bound.proofs.Mix.{upd, upd_same, upd_other}
 use Rattle.bound.proofs.Replace.{sum_from}
@@ -120,7 +120,7 @@ module _ (u d : ℕ) (outputs : List ℕ) (rs : List Bool) where
   by-case false keep flip x y F p q = ap₂ (λ (a b : ℕ). keep * a + flip * b) p q ∙ omega arith
 
   pub literal : (s : ℕ) (gs : List Gate) (vs : List Bool) (e : ℕ → Bool) → length vs ≡ s → Wrong rs s vs e
-      → AllFrom no_gate PinsBelow s gs → AllFrom no_gate (λ t g. g.chance ≤ d) s gs
+      → AllFrom no_gate GatePinsBelow s gs → AllFrom no_gate (λ t g. g.chance ≤ d) s gs
       → AllFrom no_gate (RightAt rs) s gs
       → Below (s + length gs) outputs
       → u ^ length gs * flip_sum gs vs ≡ errors_from s gs e
@@ -130,7 +130,7 @@ module _ (u d : ℕ) (outputs : List ℕ) (rs : List Bool) where
       let a = answer g.table (pin_values vs g.pins) in
       let r = answer g.table (pin_values rs g.pins) in
       let pins : pin_values vs g.pins ≡ inverted (pin_values rs g.pins) (map e g.pins)
-      = pins-wrong rs s vs e wrong g.pins (all_head no_gate PinsBelow s g gs below) in
+      = pins-wrong rs s vs e wrong g.pins (all_head no_gate GatePinsBelow s g gs below) in
       let m = unmoved rs g (map e g.pins) in
       let moved : beq a r ≡ m = ap (λ (ws : List Bool). beq (answer g.table ws) r) pins in
       let value : (flip : Bool) → invert_if flip a ≡ invert_if (wrong_bit m flip) (get_or rs s false)
@@ -144,7 +144,7 @@ module _ (u d : ℕ) (outputs : List ℕ) (rs : List Bool) where
       (upd e s (wrong_bit m flip))
       (omega (arith, length-append vs (invert_if flip a ∷ [])))
       (wrong-next rs s vs e size wrong (invert_if flip a) (wrong_bit m flip) (value flip))
-      (all_tail no_gate PinsBelow s g gs below)
+      (all_tail no_gate GatePinsBelow s g gs below)
       (all_tail no_gate (λ t g. g.chance ≤ d) s g gs chances)
       (all_tail no_gate (RightAt rs) s g gs right)
       (λ i l. omega (arith, outs i l)) in

@@ -14,7 +14,7 @@ use Rattle.netlist.specs.Netlist.{Gate, no_gate}
 use Rattle.lists.specs.Lists.{count, Below}
 use Rattle.netlist.specs.Live.{is_live, if_live, with_gate, live_reads_from, live_among}
 use Rattle.lists.proofs.Counts.{count-append}
-use Rattle.netlist.specs.WellFormed.{PinsBelow}
+use Rattle.netlist.specs.WellFormed.{GatePinsBelow}
 use Rattle.lists.proofs.Every.{below-tail, AllFrom, all_head, all_tail}
 use Rattle.netlist.proofs.Live.{count-with, count-later}
 use Rattle.bound.proofs.Suppose.{kept, cut}
@@ -54,7 +54,7 @@ module _ (sh σ : ℕ → Bool) where
           longer (suc i) l = ih i (omega arith)
 
   module _ (ss outputs : List ℕ) (once : (t : ℕ) → count t ss ≡ bit_of (sh t)) where
-    pub reads-cut : (s : ℕ) (gs : List Gate) → AllFrom no_gate PinsBelow s gs
+    pub reads-cut : (s : ℕ) (gs : List Gate) → AllFrom no_gate GatePinsBelow s gs
         → ((t : ℕ) → s ≤ t → sh t ≡ true → 0 < count t (live_reads_from outputs s gs))
         → (t : ℕ) → count t (live_reads_from (ss ++ kept sh σ outputs) s (map (cut sh σ) gs)) ≡ cond (sh t) 1 (count t (live_reads_from outputs s gs))
     reads-cut s [] below live t = count-append t ss (kept sh σ outputs) ∙ go (sh t) (once t) (count_kept t outputs)
@@ -66,10 +66,10 @@ module _ (sh σ : ℕ → Bool) where
     reads-cut s (g ∷ gs) below live t =
         let later = live_reads_from outputs (suc s) gs in
         let left = live_reads_from (ss ++ kept sh σ outputs) (suc s) (map (cut sh σ) gs) in
-        let pins = all_head no_gate PinsBelow s g gs below in
+        let pins = all_head no_gate GatePinsBelow s g gs below in
         let same : (r : ℕ) → s ≤ r → count r (with_gate s g.pins later) ≡ count r later = λ r l. count-later r s g.pins later pins l in
         let ih : (r : ℕ) → count r left ≡ cond (sh r) 1 (count r later)
-        = reads-cut (suc s) gs (all_tail no_gate PinsBelow s g gs below) (λ r l h. omega (arith, live r (omega arith) h, same r (omega arith))) in
+        = reads-cut (suc s) gs (all_tail no_gate GatePinsBelow s g gs below) (λ r l h. omega (arith, live r (omega arith) h, same r (omega arith))) in
         count-with t s (kept sh σ g.pins) left
         ∙ ap₂ ◌+◌ (ap₂ if_live (ih s) (count_kept t g.pins)) (ih t)
         ∙ go (sh s) (count s later) (λ h. omega (arith, live s (le_refl s) h, same s (le_refl s))) (sh t)

@@ -16,7 +16,7 @@ use Rattle.lists.specs.Lists.{count, Below}
 use Rattle.lists.proofs.Counts.{count-append}
 use Rattle.lists.proofs.Every.{AllFrom, all_head, all_tail}
 use Rattle.netlist.specs.Netlist.{Gate, no_gate}
-use Rattle.netlist.specs.WellFormed.{PinsBelow}
+use Rattle.netlist.specs.WellFormed.{GatePinsBelow}
 use Rattle.netlist.specs.Live.{is_live, if_live, live_reads_from}
 use Rattle.netlist.proofs.Live.{count-outputs}
 use Rattle.bound.proofs.Near.{near-at, near-trans, near-scale, near-cancel, replace-mean}
@@ -199,7 +199,7 @@ module _ (outputs : List ℕ) (all_right : List Bool → ℕ) (right_given wrong
         later-once (suc c) ps rs once p h = omega (arith, once p h, count-append p ps rs)
 
         -- all gates replaced, the first first
-        pub replace-all : (s : ℕ) (gs : List Gate) (end : ℕ) → s + length gs ≡ end → AllFrom no_gate PinsBelow s gs
+        pub replace-all : (s : ℕ) (gs : List Gate) (end : ℕ) → s + length gs ≡ end → AllFrom no_gate GatePinsBelow s gs
             → AllFrom no_gate (Local u mass w₀ w₁ wrong_given charge) s gs → Once w₁ (live_reads_from outputs s gs)
             → Near
             (charges outputs charge s gs * mass ^ end)
@@ -211,7 +211,7 @@ module _ (outputs : List ℕ) (all_right : List Bool → ℕ) (right_given wrong
             omega (arith, ap (λ (z : ℕ). u * z) same)
         replace-all s (g ∷ gs) end e below near once =
             let c = count s (live_reads_from outputs (suc s) gs) in
-            let pins = all_head no_gate PinsBelow s g gs below in
+            let pins = all_head no_gate GatePinsBelow s g gs below in
             let own = all_head no_gate (Local u mass w₀ w₁ wrong_given charge) s g gs near in
             let first = step s g gs end e pins own c refl once in
             let others =
@@ -220,13 +220,13 @@ module _ (outputs : List ℕ) (all_right : List Bool → ℕ) (right_given wrong
             gs
             end
             (omega arith)
-            (all_tail no_gate PinsBelow s g gs below)
+            (all_tail no_gate GatePinsBelow s g gs below)
             (all_tail no_gate (Local u mass w₀ w₁ wrong_given charge) s g gs near)
             (later-once c g.pins (live_reads_from outputs (suc s) gs) once) in
             near-at (omega arith) refl refl (near-trans others first)
 
         -- the general bound: n inputs that are never wrong, then these gates, then the outputs, each with a charge that it keeps by itself
-        pub replaced : (n : ℕ) (gs : List Gate) (out rel : ℕ) → ((t : ℕ) → t < n → w₁ t ≡ 0) → AllFrom no_gate PinsBelow n gs → Below (n + length gs) outputs
+        pub replaced : (n : ℕ) (gs : List Gate) (out rel : ℕ) → ((t : ℕ) → t < n → w₁ t ≡ 0) → AllFrom no_gate GatePinsBelow n gs → Below (n + length gs) outputs
             → AllFrom no_gate (Local u mass w₀ w₁ wrong_given charge) n gs → Once w₁ (live_reads_from outputs n gs)
             → Near (out * mass ^ length outputs) (2 * (rel * mass ^ length outputs)) (2 * (u * fold_bits w₀ w₁ outputs all_right))
             → Near

@@ -7,7 +7,7 @@ use lib.Dec.{lit≤}
 use lib.ListN.{length}
 use Rattle.lists.proofs.Every.{below_holds}
 use Rattle.netlist.specs.Netlist.{gate_at}
-use Rattle.netlist.specs.WellFormed.{PinsBelow, WellFormed}
+use Rattle.netlist.specs.WellFormed.{GatePinsBelow, WellFormed}
 use Rattle.netlist.specs.Live.{live_reads, readers, live_gates, SingleReaders}
 use Rattle.bound.specs.Sharp.{error_halves, KindsHonest}
 use Rattle.bound.specs.Sheets.{still_chain, SharpSheets}
@@ -16,7 +16,7 @@ use Rattle.bound.proofs.Average.{zero-exact}
 still-well : (d : ℕ) → WellFormed d still_chain
 still-well d = record { pins_below = pins; chances = chances; outputs_below = below_holds 5 (4 ∷ []) refl }
   where
-    pins : (j : ℕ) → j < length still_chain.gates → PinsBelow (2 + j) (gate_at still_chain j)
+    pins : (j : ℕ) → j < length still_chain.gates → GatePinsBelow (2 + j) (gate_at still_chain j)
     pins zero l = below_holds 2 (0 ∷ []) refl
     pins (suc zero) l = below_holds 3 (2 ∷ 1 ∷ []) refl
     pins (suc (suc zero)) l = below_holds 4 (3 ∷ []) refl

@@ -15,7 +15,7 @@ use Rattle.netlist.specs.Netlist.{Gate, no_gate, first_flip, other_flips}
 use Rattle.lists.specs.Lists.{Below}
 use Rattle.netlist.specs.Exact.{sum_over_flips}
 use Rattle.suppose.specs.Suppose.{is_supposed, supposed_wrong}
-use Rattle.netlist.specs.WellFormed.{PinsBelow}
+use Rattle.netlist.specs.WellFormed.{GatePinsBelow}
 use Rattle.lists.proofs.Every.{below-tail, AllFrom, all_head, all_tail}
 use Rattle.bound.proofs.Mix.{upd, upd_same, upd_other}
 use Rattle.bound.proofs.Replace.{sum_from}
@@ -152,7 +152,7 @@ module _ (sh σ : ℕ → Bool) where
 
   module _ (gate_of : ℕ → Gate) (R W : ℕ → Gate → List Bool → ℕ) where
     pub cut_sum : (F : (ℕ → Bool) → ℕ) → Vanishes F → (s : ℕ) (gs : List Gate) (e : ℕ → Bool) → Agrees s e
-        → AllFrom no_gate PinsBelow s gs → AllFrom no_gate (λ t g. gate_of t ≡ g) s gs
+        → AllFrom no_gate GatePinsBelow s gs → AllFrom no_gate (λ t g. gate_of t ≡ g) s gs
         → sum_of R W F s gs e ≡ sum_of (given gate_of R) (given gate_of W) F s (map cut gs) e
     cut_sum F v s [] e agrees below are = refl
     cut_sum F v s (g ∷ gs) e agrees below are =
@@ -166,7 +166,7 @@ module _ (sh σ : ℕ → Bool) where
         gs
         (upd e s b)
         (agrees-next s e b agrees h)
-        (all_tail no_gate PinsBelow s g gs below)
+        (all_tail no_gate GatePinsBelow s g gs below)
         (all_tail no_gate (λ t g. gate_of t ≡ g) s g gs are) in
         ap₂ ◌+◌ (ap₂ ◌*◌ (same R) (branch false (next false) (sh s) refl)) (ap₂ ◌*◌ (same W) (branch true (next true) (sh s) refl))
       where
@@ -175,7 +175,7 @@ module _ (sh σ : ℕ → Bool) where
             subst
             (λ (h : Gate). X s g (map e g.pins) ≡ X s h (fill h.pins (map e (kept g.pins))))
             (sym (all_head no_gate (λ t g. gate_of t ≡ g) s g gs are))
-            (ap (X s g) (sym (fill-kept e g.pins ∙ view-same s e agrees g.pins (all_head no_gate PinsBelow s g gs below))))
+            (ap (X s g) (sym (fill-kept e g.pins ∙ view-same s e agrees g.pins (all_head no_gate GatePinsBelow s g gs below))))
 
         Same : Bool → Type 0
         Same b = sum_of R W F (suc s) gs (upd e s b) ≡ sum_of (given gate_of R) (given gate_of W) F (suc s) (map cut gs) (upd e s b)
@@ -256,7 +256,7 @@ checks-at-most (s ∷ ss) bs T h xs = go (beq (first_flip bs) (first_flip xs)) (
 -- with each source of ss checked once and the outputs on ss settled
 pub fixed-sum : (R W : ℕ → Gate → List Bool → ℕ) (gate_of : ℕ → Gate) (ss : List ℕ) (bs : List Bool) (outputs : List ℕ) (T : List Bool → ℕ)
     (s : ℕ) (gs : List Gate) (e : ℕ → Bool)
-    → Agrees (is_supposed ss) (supposed_wrong ss bs) s e → AllFrom no_gate PinsBelow s gs → AllFrom no_gate (λ t g. gate_of t ≡ g) s gs
+    → Agrees (is_supposed ss) (supposed_wrong ss bs) s e → AllFrom no_gate GatePinsBelow s gs → AllFrom no_gate (λ t g. gate_of t ≡ g) s gs
     → Below (s + length gs) outputs
     → sum_from (ss ++ outputs) (checks ss bs T) R W s gs e
     ≡ sum_from

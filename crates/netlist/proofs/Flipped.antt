@@ -11,7 +11,7 @@ use lib.Seq.{get_or_at}
 use Rattle.lists.proofs.Every.{AllFrom, all_head, all_tail}
 use Rattle.figure.specs.Figure.{is_odd, invert_if, answer}
 use Rattle.netlist.specs.Netlist.{Gate, Netlist, no_gate, gate_at, input_values, pin_values, first_flip, other_flips, values}
-use Rattle.netlist.specs.WellFormed.{PinsBelow, PinsBelow}
+use Rattle.netlist.specs.WellFormed.{GatePinsBelow, PinsBelow}
 use Rattle.netlist.specs.Seen.{alone}
 use Rattle.netlist.proofs.Values.{inputs-length, input-value, pins-agree}
 
@@ -51,7 +51,7 @@ values-keep (g ∷ gs) flips vs i l =
     let v = invert_if (first_flip flips) (answer g.table (pin_values vs g.pins)) in
     sym (get_or-append vs (v ∷ []) false i l) ∙ values-keep gs (other_flips flips) (vs ++ (v ∷ [])) i (omega (arith, length-append vs (v ∷ [])))
 
-values-gate : (n : ℕ) (gs : List Gate) (flips vs : List Bool) → length vs ≡ n → AllFrom no_gate PinsBelow n gs
+values-gate : (n : ℕ) (gs : List Gate) (flips vs : List Bool) → length vs ≡ n → AllFrom no_gate GatePinsBelow n gs
     → (k : ℕ) → k < length gs
     → get_or (values gs flips vs) (n + k) false
     ≡ invert_if (get_or flips k false) (answer (get_or gs k no_gate).table (pin_values (values gs flips vs) (get_or gs k no_gate).pins))
@@ -65,14 +65,14 @@ values-gate n (g ∷ gs) flips vs e below zero l =
     ∙ ap₂
     (λ (b : Bool) (ws : List Bool). invert_if b (answer g.table ws))
     (first-flip flips)
-    (pins-agree false n vs all g.pins (all_head no_gate PinsBelow n g gs below) (λ i h. values-keep (g ∷ gs) flips vs i (omega arith)))
+    (pins-agree false n vs all g.pins (all_head no_gate GatePinsBelow n g gs below) (λ i h. values-keep (g ∷ gs) flips vs i (omega arith)))
 values-gate n (g ∷ gs) flips vs e below (suc k) l =
     let v = invert_if (first_flip flips) (answer g.table (pin_values vs g.pins)) in
     let all = values (g ∷ gs) flips vs in
     let at : n + suc k ≡ suc n + k = omega arith in
     let size : length (vs ++ (v ∷ [])) ≡ suc n = omega (arith, length-append vs (v ∷ [])) in
     ap (λ (i : ℕ). get_or all i false) at
-    ∙ values-gate (suc n) gs (other_flips flips) (vs ++ (v ∷ [])) size (all_tail no_gate PinsBelow n g gs below) k (omega arith)
+    ∙ values-gate (suc n) gs (other_flips flips) (vs ++ (v ∷ [])) size (all_tail no_gate GatePinsBelow n g gs below) k (omega arith)
     ∙ ap (λ (b : Bool). invert_if b (answer (get_or gs k no_gate).table (pin_values all (get_or gs k no_gate).pins))) (other-flips flips k)
 
 -- ---- values of a netlist

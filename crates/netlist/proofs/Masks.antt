@@ -13,7 +13,7 @@ use Rattle.lists.proofs.Counts.{count-where}
 use Rattle.lists.proofs.Every.{AllFrom, all_head, all_tail, below-tail}
 use Rattle.netlist.specs.Netlist.{Gate, Netlist, no_gate, gate_at, pin_values, right_values}
 use Rattle.netlist.specs.Live.{is_live, if_live, with_gate, live_reads_from}
-use Rattle.netlist.specs.WellFormed.{PinsBelow, PinsBelow}
+use Rattle.netlist.specs.WellFormed.{GatePinsBelow, PinsBelow}
 use Rattle.netlist.specs.Seen.{sensitive, pins_where, sensitive_pins, mask_reads_from, mask_reads, mask_seen, MaskMeans}
 use Rattle.netlist.proofs.Live.{count-with, count-later, reached-read, read-reached}
 
@@ -38,11 +38,11 @@ part-below b t i (p ∷ ps) below = go (t i) (part-below b t (suc i) ps (below-t
     go true rest (suc k) l = rest k (omega arith)
 
 -- a gate adds no mask read of itself or a later source
-pub mask-later : (vs : List Bool) (outputs : List ℕ) (s : ℕ) (g : Gate) (gs : List Gate) → AllFrom no_gate PinsBelow s (g ∷ gs) → (t : ℕ) → s ≤ t
+pub mask-later : (vs : List Bool) (outputs : List ℕ) (s : ℕ) (g : Gate) (gs : List Gate) → AllFrom no_gate GatePinsBelow s (g ∷ gs) → (t : ℕ) → s ≤ t
     → count t (mask_reads_from vs outputs s (g ∷ gs)) ≡ count t (mask_reads_from vs outputs (suc s) gs)
 mask-later vs outputs s g gs below t l =
     let test = sensitive g.table (pin_values vs g.pins) in
-    let pins = part-below s test 0 g.pins (all_head no_gate PinsBelow s g gs below) in
+    let pins = part-below s test 0 g.pins (all_head no_gate GatePinsBelow s g gs below) in
     count-later t s (sensitive_pins vs g) (mask_reads_from vs outputs (suc s) gs) pins l
 
 -- a read that passes a wrong value on is a live read
@@ -78,7 +78,7 @@ pub mask-from : (net : Netlist) (vs : List Bool) (j : ℕ) → j < length net.ga
 mask-from net vs j l = ap (mask_reads_from vs net.outputs (net.inputs + j)) (drop-cons net.gates j no_gate l)
 
 -- gates up to gate j do not read it
-settled : (vs : List Bool) (outputs : List ℕ) (s : ℕ) (gs : List Gate) → AllFrom no_gate PinsBelow s gs → (j t : ℕ) → j < length gs → t ≡ s + j
+settled : (vs : List Bool) (outputs : List ℕ) (s : ℕ) (gs : List Gate) → AllFrom no_gate GatePinsBelow s gs → (j t : ℕ) → j < length gs → t ≡ s + j
     → count t (mask_reads_from vs outputs s gs) ≡ count t (mask_reads_from vs outputs (suc t) (drop (suc j) gs))
 settled vs outputs s [] below j t l e = absurd (omega arith)
 settled vs outputs s (g ∷ gs) below zero t l e =
@@ -86,7 +86,7 @@ settled vs outputs s (g ∷ gs) below zero t l e =
     mask-later vs outputs s g gs below t (omega arith) ∙ ap (λ (k : ℕ). count t (mask_reads_from vs outputs (suc k) gs)) here
 settled vs outputs s (g ∷ gs) below (suc j) t l e =
     mask-later vs outputs s g gs below t (omega arith)
-    ∙ settled vs outputs (suc s) gs (all_tail no_gate PinsBelow s g gs below) j t (omega arith) (omega arith)
+    ∙ settled vs outputs (suc s) gs (all_tail no_gate GatePinsBelow s g gs below) j t (omega arith) (omega arith)
 
 pub mask-settled : (net : Netlist) → PinsBelow net → (q j : ℕ) → j < length net.gates
     → mask_seen net q j

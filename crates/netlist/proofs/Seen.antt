@@ -18,7 +18,7 @@ use Rattle.netlist.specs.declared.Method.TheVariants.{Flip, Mask}
 use Rattle.netlist.specs.Netlist.{Gate, Netlist, no_gate, input_values, pin_values, values, right_values}
 use Rattle.netlist.specs.Exact.{outputs_agree}
 use Rattle.netlist.specs.Live.{is_live, if_live, with_gate, live_reads_from, live_reads, readers, SingleReaders}
-use Rattle.netlist.specs.WellFormed.{PinsBelow, PinsBelow}
+use Rattle.netlist.specs.WellFormed.{GatePinsBelow, PinsBelow}
 use Rattle.netlist.specs.Seen.{alone, flip_seen, sensitive, pins_where, sensitive_pins, mask_reads_from, mask_reads, mask_seen, seen_by, seen_count, seen_counts}
 use Rattle.netlist.specs.Seen.{differ, MethodsAgree, DeadUnseen, MethodsDiffer}
 use Rattle.netlist.proofs.Values.{inputs-length, pins-agree}
@@ -70,7 +70,7 @@ module _ (outputs : List ℕ) where
         )
 
   -- where at most one live read is wrong, an output goes wrong exactly if a mask read is. Where none is wrong, gates may be shared
-  reads-seen : (s : ℕ) (gs : List Gate) (ws vs : List Bool) → length ws ≡ s → length vs ≡ s → AllFrom no_gate PinsBelow s gs
+  reads-seen : (s : ℕ) (gs : List Gate) (ws vs : List Bool) → length ws ≡ s → length vs ≡ s → AllFrom no_gate GatePinsBelow s gs
       → (0 < wrong_reads ws vs (live_reads_from outputs s gs) → (wrong_reads ws vs (live_reads_from outputs s gs) ≤ 1) × Single s gs)
       → not (outputs_agree outputs (values gs [] ws) (values gs [] vs)) ≡ is_live (wrong_reads ws vs (mask_reads_from (values gs [] vs) outputs s gs))
   reads-seen s [] ws vs m n below few = outputs-wrong ws vs outputs
@@ -84,7 +84,7 @@ module _ (outputs : List ℕ) where
       let part : all ≡ if_live (count s live) (wrong_reads ws vs g.pins) + wrong_reads ws vs live = wrong-with ws vs s g.pins live in
       let at_most : all ≤ 1 = ⊎_elim (λ none. omega arith) (λ some. (few some).0) (eq-zero-or-pos all) in
       let settled : pin_values vs g.pins ≡ pin_values right g.pins
-      = pins-agree false s vs right g.pins (all_head no_gate PinsBelow s g gs below) (λ i l. values-keep (g ∷ gs) [] vs i (omega arith)) in
+      = pins-agree false s vs right g.pins (all_head no_gate GatePinsBelow s g gs below) (λ i l. values-keep (g ∷ gs) [] vs i (omega arith)) in
       let answers : 0 < count s live → wrong_reads ws vs (sensitive_pins right g) ≡ bit_of (differ w v)
       = λ some.
       ap (λ (us : List Bool). wrong_reads ws vs (pins_where (sensitive g.table us) 0 g.pins)) (sym settled)
@@ -103,7 +103,7 @@ module _ (outputs : List ℕ) where
       (vs ++ (v ∷ []))
       (omega (arith, length-append ws (w ∷ [])))
       (omega (arith, length-append vs (v ∷ [])))
-      (all_tail no_gate PinsBelow s g gs below)
+      (all_tail no_gate GatePinsBelow s g gs below)
       (λ some.
       let next = wrong-next s ws vs m n w v live in
       let before = few (omega (arith, fewer.0 (omega arith))) in
@@ -118,7 +118,7 @@ module _ (outputs : List ℕ) where
       ∙ ap is_live (sym (wrong-with ws vs s (sensitive_pins right g) masked))
 
   -- the flip of one gate alone: exactly its reads are wrong
-  flip-seen : (s : ℕ) (gs : List Gate) (vs : List Bool) (j t : ℕ) → t ≡ s + j → j < length gs → length vs ≡ s → AllFrom no_gate PinsBelow s gs
+  flip-seen : (s : ℕ) (gs : List Gate) (vs : List Bool) (j t : ℕ) → t ≡ s + j → j < length gs → length vs ≡ s → AllFrom no_gate GatePinsBelow s gs
       → (0 < count t (live_reads_from outputs s gs) → Single s gs)
       → not (outputs_agree outputs (values gs (alone j) vs) (values gs [] vs)) ≡ is_live (count t (mask_reads_from (values gs [] vs) outputs s gs))
   flip-seen s [] vs j t e l n below single = absurd (omega arith)
@@ -143,7 +143,7 @@ module _ (outputs : List ℕ) where
       (vs ++ (v ∷ []))
       (omega (arith, length-append vs (not v ∷ [])))
       (omega (arith, length-append vs (v ∷ [])))
-      (all_tail no_gate PinsBelow s g gs below)
+      (all_tail no_gate GatePinsBelow s g gs below)
       (λ some.
       let alone = single (omega (arith, flipped live, count-more t s g.pins live)) in
       (omega (arith, flipped live, single-first s g gs alone, ap (λ (k : ℕ). count k live) here), single-others s g gs alone))
@@ -160,7 +160,7 @@ module _ (outputs : List ℕ) where
       (omega arith)
       (omega arith)
       (omega (arith, length-append vs (v ∷ [])))
-      (all_tail no_gate PinsBelow s g gs below)
+      (all_tail no_gate GatePinsBelow s g gs below)
       (λ some. single-others s g gs (single (omega (arith, count-more t s g.pins (live_reads_from outputs (suc s) gs)))))
       ∙ ap is_live (sym (mask-later right outputs s g gs below t (omega arith)))
 

@@ -4,11 +4,11 @@ use Rattle.lists.specs.Lists.{Below}
 use Rattle.netlist.specs.Netlist.{Gate, Netlist, gate_at}
 
 -- every used pin reads an input or an earlier gate: the gate is source s
-abbrev pub PinsBelow : ℕ → Gate → Type 0
-PinsBelow s g = Below s g.pins
+abbrev pub GatePinsBelow : ℕ → Gate → Type 0
+GatePinsBelow s g = Below s g.pins
 
 abbrev pub PinsBelow : Netlist → Type 0
-PinsBelow net = (j : ℕ) → j < length net.gates → PinsBelow (net.inputs + j) (gate_at net j)
+PinsBelow net = (j : ℕ) → j < length net.gates → GatePinsBelow (net.inputs + j) (gate_at net j)
 
 -- and every chance is at most 1, and every output an input or a gate
 pub record WellFormed (d : ℕ) (net : Netlist) : Type 0 where
