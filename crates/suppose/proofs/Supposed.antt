@@ -144,7 +144,7 @@ none_from u d vs bs (g ∷ gs) fs = none_from u d vs bs gs _
 pub none-outputs : (u : ℕ) (fs : List ℕ) (s : ℕ) (os : List ℕ) → output_steps u (λ o. get_or fs o 0) s os ≡ reliability_from u fs s os
 unfolding output_step
 none-outputs u fs s [] = refl
-none-outputs u fs s (o ∷ os) = none-outputs u fs _ os
+none-outputs u fs s (o ∷ os) = none-outputs u fs (blend u s 0 (get_or fs o 0)) os
 
 pub none-shared : (u d : ℕ) → 0 < u → 0 < d → (net : Netlist) → WellFormed d net → (q : ℕ) → shared_gates net ≡ []
     → shared_reliability u d net q ≡ reliability u d net q
