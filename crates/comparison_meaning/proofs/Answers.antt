@@ -1,0 +1,37 @@
+-- What an answer that is no refusal says: both images were accepted, and whose figures it has. Assumes nothing.
+use Prim.Native.Nat.{ℕ}
+use mathlib.Core.List.{List}
+use mathlib.Core.Path.{◌≡◌, refl}
+use Rattle.refusal.specs.declared.Judgement.{Judgement}
+use Rattle.refusal.specs.declared.Judgement.TheVariants.{Fine, Refused}
+use Rattle.calls.specs.Judgements.{image_judgement}
+use Rattle.comparison.specs.declared.Verdict.{Verdict}
+use Rattle.comparison.specs.declared.Module.{Module}
+use Rattle.comparison.specs.declared.Patterns.{Patterns}
+use Rattle.comparison.specs.declared.Compared.{Compared}
+use Rattle.comparison.specs.declared.Compared.TheVariants.{Done}
+use Rattle.comparison.specs.Standing.{averages_verdict, patterns_between, answered}
+use Rattle.comparison.specs.Images.{figures_of, module_of, compared_if, compared}
+
+pub record Told (bs cs : List ℕ) (v : Verdict) (m k : Module) (p : Patterns) : Type 0 where
+  pub first_fine : image_judgement bs ≡ Fine
+  pub second_fine : image_judgement cs ≡ Fine
+  pub verdict_is : averages_verdict (module_of bs) (module_of cs) ≡ v
+  pub first_is : module_of bs ≡ m
+  pub second_is : module_of cs ≡ k
+  pub patterns_are : patterns_between (module_of bs) (figures_of bs) (module_of cs) (figures_of cs) ≡ p
+
+both-fine : (i j : Judgement) (answer : Compared) (v : Verdict) (m k : Module) (p : Patterns) → compared_if i j answer ≡ Done v m k p
+    → (i ≡ Fine) × (j ≡ Fine) × (answer ≡ Done v m k p)
+both-fine Fine Fine answer v m k p e = (refl, refl, e)
+both-fine Fine (Refused a b) answer v m k p e = (cc, cc, cc)
+both-fine (Refused a b) j answer v m k p e = (cc, cc, cc)
+
+parts : (v w : Verdict) (m n k l : Module) (p q : Patterns) → Done v m k p ≡ Done w n l q → (v ≡ w) × (m ≡ n) × (k ≡ l) × (p ≡ q)
+parts v w m n k l p q e = (cc, cc, cc, cc)
+
+pub told : (bs cs : List ℕ) (v : Verdict) (m k : Module) (p : Patterns) → compared bs cs ≡ Done v m k p → Told bs cs v m k p
+told bs cs v m k p e =
+    let fine = both-fine (image_judgement bs) (image_judgement cs) (answered (module_of bs) (figures_of bs) (module_of cs) (figures_of cs)) v m k p e in
+    let each = parts _ v (module_of bs) m (module_of cs) k _ p fine.2 in
+    record { first_fine = fine.0; second_fine = fine.1; verdict_is = each.0; first_is = each.1; second_is = each.2; patterns_are = each.3 }
