@@ -33,7 +33,7 @@ inputs-requires c = omega (arith, (passed c).workable.net.long)
 module _ (c : After-index) where
   inside : c.inputs.result + c.index.result < most_sources
   inside =
-      omega (arith, c.index.ensures, c.inputs.ensures, there c.before.before, few-sources (c c).args.area.now (passed c.before.before).workable.net)
+      omega (arith, c.index.ensures, c.inputs.ensures, there c.before.before, few-sources c.args.area.now (passed c.before.before).workable.net)
 
 pub overflow_add-live : goal.overflow_add-live
 overflow_add-live c = omega (arith, inside c)

@@ -25,7 +25,7 @@ pin-requires c =
 module _ (c : After-pin) where
   room : c.pin.result < most_sources
   room =
-      let p = (c c).requires in
+      let p = c.requires in
       omega (arith, c.pin.ensures, pin-below _ p.0 _ p.1 _ (used (record { before = c.before.before; type_inv = record { area = c.shared_slice_known-1.given } })), few-sources _ p.0, p.1)
 
 pub offset_bounds-unseen-pin : goal.offset_bounds-unseen-pin

@@ -60,14 +60,14 @@ bounds-marks-source-2 c =
 
 -- the gate worked out, and its mark taken away
 module _ (c : After-work_gate) where
-  done : Settled (ws c.before.before.before.before.before.before.before) c.work_gate.new.area (set (c c).args.marks.now (c.inputs.result + (c c).args.gate) 0)
+  done : Settled (ws c.before.before.before.before.before.before.before) c.work_gate.new.area (set c.args.marks.now (c.inputs.result + c.args.gate) 0)
   done =
-      let one : get_or (c c).args.marks.now (inputs (ws c.before.before.before.before.before.before.before) + (c c).args.gate) 0 ≡ 1
-      = ap (λ (x : ℕ). get_or (c c).args.marks.now x 0) (sym (place c.before.before.before.before.before.before.before)) ∙ c.if-marks-source-ne1.false in
-      let marks = (c c).args.marks.now in
-      subst (λ (us : List ℕ). Settled (ws c.before.before.before.before.before.before.before) us (set marks (c.inputs.result + (c c).args.gate) 0)) (sym c.work_gate.ensures)
-      (subst (λ (x : ℕ). Settled (ws c.before.before.before.before.before.before.before) (work_gate (ws c.before.before.before.before.before.before.before) (c c).args.gate) (set marks x 0)) (sym (place c.before.before.before.before.before.before.before))
-      (settled-gate (ws c.before.before.before.before.before.before.before) marks (c c).args.gate (c c).pre.0 (c c).pre.1 (c c).pre.2 (c c).pre.3 one
+      let one : get_or c.args.marks.now (inputs (ws c.before.before.before.before.before.before.before) + c.args.gate) 0 ≡ 1
+      = ap (λ (x : ℕ). get_or c.args.marks.now x 0) (sym (place c.before.before.before.before.before.before.before)) ∙ c.if-marks-source-ne1.false in
+      let marks = c.args.marks.now in
+      subst (λ (us : List ℕ). Settled (ws c.before.before.before.before.before.before.before) us (set marks (c.inputs.result + c.args.gate) 0)) (sym c.work_gate.ensures)
+      (subst (λ (x : ℕ). Settled (ws c.before.before.before.before.before.before.before) (work_gate (ws c.before.before.before.before.before.before.before) c.args.gate) (set marks x 0)) (sym (place c.before.before.before.before.before.before.before))
+      (settled-gate (ws c.before.before.before.before.before.before.before) marks c.args.gate c.pre.0 c.pre.1 c.pre.2 c.pre.3 one
       (c.reads_marked.ensures c.if-reads_marked.false)))
 
 pub shape_of-area : goal.shape_of-area

@@ -55,11 +55,11 @@ sum_from-sum-requires c =
 
 -- the sum, cut at U
 module _ (c : After-sum_from-sum) where
-  cut : at_most units_in_one c.sum_from-sum.result ≡ shared_units (c c).args.area.now
+  cut : at_most units_in_one c.sum_from-sum.result ≡ shared_units c.args.area.now
   cut =
       ap (at_most units_in_one) (c.sum_from-sum.ensures.value ∙ sum-all (vs c.before.before.before.before.before.before.before.before.before)) ∙ all-added (vs c.before.before.before.before.before.before.before.before.before) ∙ (settled c.before.before.before.before.before.before.before.before.before).same_answer
 
-  size-kept : length c.sum_from-sum.new.area ≡ length (c c).args.area.now
+  size-kept : length c.sum_from-sum.new.area ≡ length c.args.area.now
   size-kept = c.sum_from-sum.ensures.same_before.size ∙ (settled c.before.before.before.before.before.before.before.before.before).size
 
 pub shape_of-area-then-sum-gt-UNITS_IN_ONE : goal.shape_of-area-then-sum-gt-UNITS_IN_ONE

@@ -87,25 +87,25 @@ module _ (c : After-work_gate) where
   abbrev left : List ℕ
   left = c.work_gate.new.area
 
-  before : WorkedTo (ws (record { before = c.before.before.before; type_inv = record { next = c.way_told-1.given } })) (c c).args.marks.now held (c c).args.from (g (record { before = c.before.before.before; type_inv = record { next = c.way_told-1.given } }))
+  before : WorkedTo (ws (record { before = c.before.before.before; type_inv = record { next = c.way_told-1.given } })) c.args.marks.now held c.args.from (g (record { before = c.before.before.before; type_inv = record { next = c.way_told-1.given } }))
   before = c.loop-gate.invariant.3
 
   is : left ≡ work_gate held (g (record { before = c.before.before.before; type_inv = record { next = c.way_told-1.given } }))
   is = c.work_gate.ensures
 
-  stepped : WorkedTo (ws (record { before = c.before.before.before; type_inv = record { next = c.way_told-1.given } })) (c c).args.marks.now left (c c).args.from (g (record { before = c.before.before.before; type_inv = record { next = c.way_told-1.given } }))
+  stepped : WorkedTo (ws (record { before = c.before.before.before; type_inv = record { next = c.way_told-1.given } })) c.args.marks.now left c.args.from (g (record { before = c.before.before.before; type_inv = record { next = c.way_told-1.given } }))
   stepped =
-      subst (λ (vs : List ℕ). WorkedTo (ws (record { before = c.before.before.before; type_inv = record { next = c.way_told-1.given } })) (c c).args.marks.now vs (c c).args.from (g (record { before = c.before.before.before; type_inv = record { next = c.way_told-1.given } }))) (sym is)
-      (worked-gate (ws (record { before = c.before.before.before; type_inv = record { next = c.way_told-1.given } })) (c c).args.marks.now held (c c).args.from (g (record { before = c.before.before.before; type_inv = record { next = c.way_told-1.given } })) c.loop-gate.invariant.0 (inside (record { before = c.before.before.before; type_inv = record { next = c.way_told-1.given } })) (mark (record { before = c.before.before.before; type_inv = record { next = c.way_told-1.given } })) before)
+      subst (λ (vs : List ℕ). WorkedTo (ws (record { before = c.before.before.before; type_inv = record { next = c.way_told-1.given } })) c.args.marks.now vs c.args.from (g (record { before = c.before.before.before; type_inv = record { next = c.way_told-1.given } }))) (sym is)
+      (worked-gate (ws (record { before = c.before.before.before; type_inv = record { next = c.way_told-1.given } })) c.args.marks.now held c.args.from (g (record { before = c.before.before.before; type_inv = record { next = c.way_told-1.given } })) c.loop-gate.invariant.0 (inside (record { before = c.before.before.before; type_inv = record { next = c.way_told-1.given } })) (mark (record { before = c.before.before.before; type_inv = record { next = c.way_told-1.given } })) before)
 
-  passed : get_or (c c).args.marks.now (inputs (ws (record { before = c.before.before.before; type_inv = record { next = c.way_told-1.given } })) + g (record { before = c.before.before.before; type_inv = record { next = c.way_told-1.given } })) 0 ≤ 1 → WorkedTo (ws (record { before = c.before.before.before; type_inv = record { next = c.way_told-1.given } })) (c c).args.marks.now left (c c).args.from (g (record { before = c.before.before.before; type_inv = record { next = c.way_told-1.given } }) + 1)
+  passed : get_or c.args.marks.now (inputs (ws (record { before = c.before.before.before; type_inv = record { next = c.way_told-1.given } })) + g (record { before = c.before.before.before; type_inv = record { next = c.way_told-1.given } })) 0 ≤ 1 → WorkedTo (ws (record { before = c.before.before.before; type_inv = record { next = c.way_told-1.given } })) c.args.marks.now left c.args.from (g (record { before = c.before.before.before; type_inv = record { next = c.way_told-1.given } }) + 1)
   passed one =
-      subst (λ (vs : List ℕ). WorkedTo (ws (record { before = c.before.before.before; type_inv = record { next = c.way_told-1.given } })) (c c).args.marks.now vs (c c).args.from (g (record { before = c.before.before.before; type_inv = record { next = c.way_told-1.given } }) + 1)) (sym is)
-      (worked-single (ws (record { before = c.before.before.before; type_inv = record { next = c.way_told-1.given } })) (c c).args.marks.now held (c c).args.from (g (record { before = c.before.before.before; type_inv = record { next = c.way_told-1.given } })) c.loop-gate.invariant.0 (inside (record { before = c.before.before.before; type_inv = record { next = c.way_told-1.given } })) (mark (record { before = c.before.before.before; type_inv = record { next = c.way_told-1.given } })) before one)
+      subst (λ (vs : List ℕ). WorkedTo (ws (record { before = c.before.before.before; type_inv = record { next = c.way_told-1.given } })) c.args.marks.now vs c.args.from (g (record { before = c.before.before.before; type_inv = record { next = c.way_told-1.given } }) + 1)) (sym is)
+      (worked-single (ws (record { before = c.before.before.before; type_inv = record { next = c.way_told-1.given } })) c.args.marks.now held c.args.from (g (record { before = c.before.before.before; type_inv = record { next = c.way_told-1.given } })) c.loop-gate.invariant.0 (inside (record { before = c.before.before.before; type_inv = record { next = c.way_told-1.given } })) (mark (record { before = c.before.before.before; type_inv = record { next = c.way_told-1.given } })) before one)
 
   -- the lowest marked gate after it
-  found : MarkedFrom (c c).args.marks.now (inputs (ws (record { before = c.before.before.before; type_inv = record { next = c.way_told-1.given } }))) (gates (ws (record { before = c.before.before.before; type_inv = record { next = c.way_told-1.given } }))) (g (record { before = c.before.before.before; type_inv = record { next = c.way_told-1.given } }) + 1) (get_or (c c).args.next.now (g (record { before = c.before.before.before; type_inv = record { next = c.way_told-1.given } }) + 1) 0)
-  found = (c c).pre.0.1.each (g (record { before = c.before.before.before; type_inv = record { next = c.way_told-1.given } }) + 1) (omega arith) (omega (arith, inside (record { before = c.before.before.before; type_inv = record { next = c.way_told-1.given } })))
+  found : MarkedFrom c.args.marks.now (inputs (ws (record { before = c.before.before.before; type_inv = record { next = c.way_told-1.given } }))) (gates (ws (record { before = c.before.before.before; type_inv = record { next = c.way_told-1.given } }))) (g (record { before = c.before.before.before; type_inv = record { next = c.way_told-1.given } }) + 1) (get_or c.args.next.now (g (record { before = c.before.before.before; type_inv = record { next = c.way_told-1.given } }) + 1) 0)
+  found = c.pre.0.1.each (g (record { before = c.before.before.before; type_inv = record { next = c.way_told-1.given } }) + 1) (omega arith) (omega (arith, inside (record { before = c.before.before.before; type_inv = record { next = c.way_told-1.given } })))
 
 pub shape_of-area-then-marks-inputs-gt1 : goal.shape_of-area-then-marks-inputs-gt1
 shape_of-area-then-marks-inputs-gt1 c = (stepped (goal.at.shape_of-area-then-marks-inputs-gt1 c).After-work_gate).same.size

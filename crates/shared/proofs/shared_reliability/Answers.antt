@@ -40,11 +40,11 @@ low_bits-low-requires c =
 
 -- and turned to the pattern
 module _ (c : After-low_bits-low) where
-  low-is : c.low_bits-low.result ≡ (c c).args.pattern % 2 ^ inputs (image_words (bs (record { before = c.before.before.before.before; type_inv = record { image = c.shared_slice_known-1.given } })) ++ rest (record { before = c.before.before.before.before; type_inv = record { image = c.shared_slice_known-1.given } }))
-  low-is = c.low_bits-low.ensures ∙ ap (λ (n : ℕ). (c c).args.pattern % 2 ^ n) (c.inputs.ensures ∙ ap inputs (held (record { before = c.before.before.before.before; type_inv = record { image = c.shared_slice_known-1.given } })))
+  low-is : c.low_bits-low.result ≡ c.args.pattern % 2 ^ inputs (image_words (bs (record { before = c.before.before.before.before; type_inv = record { image = c.shared_slice_known-1.given } })) ++ rest (record { before = c.before.before.before.before; type_inv = record { image = c.shared_slice_known-1.given } }))
+  low-is = c.low_bits-low.ensures ∙ ap (λ (n : ℕ). c.args.pattern % 2 ^ n) (c.inputs.ensures ∙ ap inputs (held (record { before = c.before.before.before.before; type_inv = record { image = c.shared_slice_known-1.given } })))
 
   words_are : set c.load.last.1.0 pattern_index c.low_bits-low.result
-      ≡ set (image_words (bs (record { before = c.before.before.before.before; type_inv = record { image = c.shared_slice_known-1.given } })) ++ rest (record { before = c.before.before.before.before; type_inv = record { image = c.shared_slice_known-1.given } })) pattern_index ((c c).args.pattern % 2 ^ inputs (image_words (bs (record { before = c.before.before.before.before; type_inv = record { image = c.shared_slice_known-1.given } })) ++ rest (record { before = c.before.before.before.before; type_inv = record { image = c.shared_slice_known-1.given } })))
+      ≡ set (image_words (bs (record { before = c.before.before.before.before; type_inv = record { image = c.shared_slice_known-1.given } })) ++ rest (record { before = c.before.before.before.before; type_inv = record { image = c.shared_slice_known-1.given } })) pattern_index (c.args.pattern % 2 ^ inputs (image_words (bs (record { before = c.before.before.before.before; type_inv = record { image = c.shared_slice_known-1.given } })) ++ rest (record { before = c.before.before.before.before; type_inv = record { image = c.shared_slice_known-1.given } })))
   words_are = ap₂ (λ (ws : List ℕ) (q : ℕ). set ws pattern_index q) (held (record { before = c.before.before.before.before; type_inv = record { image = c.shared_slice_known-1.given } })) low-is
 
 pub read_words-requires : goal.read_words-requires

@@ -35,7 +35,7 @@ module _ (c : After-store_flip) where
 -- and with the gate worked out
 module _ (c : After-work_gate) where
   abbrev gate : ℕ
-  gate = (c c).args.gate
+  gate = c.args.gate
 
   abbrev worked : List ℕ
   worked = c.work_gate.new.area

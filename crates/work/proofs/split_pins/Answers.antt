@@ -1,6 +1,5 @@
 -- `work::split_pins` meets its contract: each turn leaves out a pin that cannot fail or keeps it. Assumes nothing.
 use Prim.Native.Nat.{ℕ, ◌+◌, ◌-◌, ◌/◌, ◌≤◌, ◌<◌}
-use mathlib.Core.Logic.{⊎_elim}
 use mathlib.Core.Path.{◌≡◌, refl, ap, ◌∙◌}
 use native.Mathlib.Omega.{arith}
 use Rattle.figure.proofs.Under.{added}
@@ -9,7 +8,7 @@ use Rattle.area.proofs.Words.{gate-inside, pin-below}
 use Rattle.area.proofs.EachPin.{kept-none, kept_same, kept_more, going-first, going-last, going-small, going-without, going-kept}
 use Rattle.work.proofs.Sound.{source-word-fits}
 use Rattle.rounding.specs.Rounding.{units_in_one}
-use Rattle.work.proofs.split_pins.Goals.{After-pin, After-source_word-word, In-loop-i}
+use Rattle.work.proofs.split_pins.Goals.{then-word-lt2, else-word-lt2, After-pin, After-source_word-word, In-loop-i}
 use Rattle.work.proofs.split_pins.Goals as goal
 
 pub pin_count-count-requires : goal.pin_count-count-requires
@@ -87,18 +86,20 @@ loop-i-preserved c =
     let there = (goal.at.loop-i-preserved c).After-source_word-word in
     let l = c.loop-i in
     let pin = used (goal.at.loop-i-preserved c).In-loop-i in
-    ⊎_elim
-    (λ w. rw (w.1, w.2, w.3, w.4) (
-      omega arith,
-      kept_same l.invariant.1,
-      going-without c.requires.workable.net c.requires.gate_bound l.invariant.2 pin (word there) (read there) (omega (arith, w.0.taken)),
-    ))
-    (λ w. rw (w.1, w.2, w.3, w.4) (
-      omega arith,
-      kept_more l.invariant.1 (word there) l.bit (few (goal.at.loop-i-preserved c).In-loop-i) (fits there),
-      going-kept c.requires.workable.net c.requires.gate_bound l.invariant.2 pin l.invariant.1 (word there) (read there),
-    ))
-    c.if-word-lt2.branch
+    elim c.if-word-lt2.branch [
+      | then-word-lt2 w ↦
+          rw (w.start-is, w.kept-is, w.words-is, w.bits-is) (
+            omega arith,
+            kept_same l.invariant.1,
+            going-without c.requires.workable.net c.requires.gate_bound l.invariant.2 pin (word there) (read there) (omega (arith, w.if-word-lt2.true)),
+          )
+      | else-word-lt2 w ↦
+          rw (w.start-is, w.kept-is, w.words-is, w.bits-is) (
+            omega arith,
+            kept_more l.invariant.1 (word there) l.bit (few (goal.at.loop-i-preserved c).In-loop-i) (fits there),
+            going-kept c.requires.workable.net c.requires.gate_bound l.invariant.2 pin l.invariant.1 (word there) (read there),
+          )
+    ]
 
 pub returns : goal.returns
 returns c =
