@@ -1,18 +1,17 @@
 -- A chain of tests, or of refusals, by the answer of its first: where it passes the others decide, where it fails it decides. Assumes nothing.
 use Prim.Native.Nat.{ℕ}
-use mathlib.Core.Bool.{Bool, true, false, not, ◌&&◌}
+use mathlib.Core.Bool.{Bool, true, false, ◌&&◌}
 use mathlib.Core.Path.{◌≡◌, sym, ◌∙◌}
-use borrow.Author.Tests.{not-true, not-false}
 use Rattle.refusal.specs.declared.Judgement.{Judgement}
 use Rattle.refusal.specs.declared.Judgement.TheVariants.{Fine, Refused}
 use Rattle.refusal.specs.Judgement.{refuse_unless, otherwise}
 
 -- what a call answered, tested by `!`
-pub yes : {r a : Bool} → r ≡ a → not r ≡ false → a ≡ true
-yes {r} e h = sym e ∙ not-false r h
+pub yes : {r a : Bool} → r ≡ a → r ≡ true → a ≡ true
+yes e h = sym e ∙ h
 
-pub no : {r a : Bool} → r ≡ a → not r ≡ true → a ≡ false
-no {r} e h = sym e ∙ not-true r h
+pub no : {r a : Bool} → r ≡ a → r ≡ false → a ≡ false
+no e h = sym e ∙ h
 
 pub passed : {a : Bool} (b : Bool) → a ≡ true → a && b ≡ b
 passed b e = rw e

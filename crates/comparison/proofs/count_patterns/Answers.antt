@@ -8,11 +8,8 @@ use Rattle.comparison.specs.declared.Verdict.{Verdict}
 use Rattle.comparison.specs.declared.Verdict.TheVariants.{First, Second, Undecided}
 use Rattle.comparison.specs.Standing.{verdict, how_often, same_verdict}
 use Rattle.comparison.proofs.Deciding.{counts-are, one-counted, at_most_one}
+use Rattle.comparison.proofs.count_patterns.Invariants.{verdict_at}
 use Rattle.comparison.proofs.count_patterns.Goals as goal
-
--- the verdict of pattern q
-abbrev verdict_at : ℕ → List ℕ → List ℕ → ℕ → Verdict
-verdict_at errors first second q = verdict errors (get_or first q 0) (get_or second q 0)
 
 pub loop-q-init : goal.loop-q-init
 loop-q-init c = (omega arith, (omega arith, omega arith, omega arith), refl, refl, refl)

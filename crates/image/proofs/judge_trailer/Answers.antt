@@ -14,7 +14,7 @@ returns-then-image-lt-TRAILER_BYTES c = simp (lt-leb _ _ c.if-image-lt-TRAILER_B
 
 pub returns-then-not-length_right : goal.returns-then-not-length_right
 unfolding trailer_refusal
-returns-then-not-length_right c = simp (← c.length_right.ensures, not-true c.length_right.result c.if-not-length_right.true)
+returns-then-not-length_right c = simp (← c.length_right.ensures, c.if-not-length_right.true)
 
 pub returns-then-two_bytes-ne-KNOWN_FORMAT : goal.returns-then-two_bytes-ne-KNOWN_FORMAT
 unfolding trailer_refusal
@@ -22,7 +22,7 @@ returns-then-two_bytes-ne-KNOWN_FORMAT c =
     let bs = c.args.image.now in
     let right = c.length_right in
     let other = ne_eqb (image_format bs) known_format (λ e. c.if-two_bytes-ne-KNOWN_FORMAT.true (c.two_bytes.ensures.0 ∙ e)) in
-    simp (← right.ensures, not-false right.result c.if-not-length_right.false, other)
+    simp (← right.ensures, c.if-not-length_right.false, other)
 
 -- what is left once 1 and 2 are passed
 left_over : (c : After-counts_in_range) →
@@ -34,20 +34,20 @@ left_over c =
     let right = c.length_right in
     let same = sym c.two_bytes.ensures.0 ∙ c.if-two_bytes-ne-KNOWN_FORMAT.false in
     let counts : counts_in_range (image_inputs bs) (image_gates bs) (image_outputs bs) ≡ c.counts_in_range.result = cc in
-    let passed = not-false right.result c.if-not-length_right.false in
+    let passed = c.if-not-length_right.false in
     simp (← right.ensures, passed, eq-eqb (image_format bs) known_format same, counts)
 
 pub returns-then-not-counts_in_range : goal.returns-then-not-counts_in_range
-returns-then-not-counts_in_range c = rw (left_over (goal.at.returns-then-not-counts_in_range c).After-counts_in_range, not-true c.counts_in_range.result c.if-not-counts_in_range.true)
+returns-then-not-counts_in_range c = rw (left_over (goal.at.returns-then-not-counts_in_range c).After-counts_in_range, c.if-not-counts_in_range.true)
 
 pub returns-then-not-back_right : goal.returns-then-not-back_right
 returns-then-not-back_right c =
     let back = c.back_right in
-    let counts = not-false c.counts_in_range.result c.if-not-counts_in_range.false in
-    rw (left_over (goal.at.returns-then-not-back_right c).After-counts_in_range, counts, ← back.ensures) (rw (not-true back.result c.if-not-back_right.true))
+    let counts = c.if-not-counts_in_range.false in
+    rw (left_over (goal.at.returns-then-not-back_right c).After-counts_in_range, counts, ← back.ensures) (rw (c.if-not-back_right.true))
 
 pub returns : goal.returns
 returns c =
     let back = c.back_right in
-    let counts = not-false c.counts_in_range.result c.if-not-counts_in_range.false in
-    rw (left_over (goal.at.returns c).After-counts_in_range, counts, ← back.ensures) (rw (not-false back.result c.if-not-back_right.false))
+    let counts = c.if-not-counts_in_range.false in
+    rw (left_over (goal.at.returns c).After-counts_in_range, counts, ← back.ensures) (rw (c.if-not-back_right.false))

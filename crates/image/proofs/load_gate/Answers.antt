@@ -25,11 +25,11 @@ shape c = cc
 
 pub returns-then-not-gate_shape : goal.returns-then-not-gate_shape
 unfolding gate_refusal
-returns-then-not-gate_shape c = record { value = simp (shape (goal.at.returns-then-not-gate_shape c).After-gate_shape, not-true c.gate_shape.result c.if-not-gate_shape.true); words_after = refused-not-fine 5 _ }
+returns-then-not-gate_shape c = record { value = simp (shape (goal.at.returns-then-not-gate_shape c).After-gate_shape, c.if-not-gate_shape.true); words_after = refused-not-fine 5 _ }
 
 pub used_below-requires : goal.used_below-requires
 used_below-requires c =
-    let passed = sym c.gate_shape.ensures ∙ not-false c.gate_shape.result c.if-not-gate_shape.false in
+    let passed = sym c.gate_shape.ensures ∙ c.if-not-gate_shape.false in
     (shape-holds _ c.two_bytes-table.result c.four_numbers-pins.result passed).few_pins
 
 -- what is left once 5 is passed
@@ -43,10 +43,10 @@ left_over c =
     let a = c.args in
     let m = a.middle.now in
     let used : used_below (a.inputs + a.j) (record_count m a.j) (record_pins m a.j) ≡ c.used_below.result = cc in
-    simp (shape (record { before = c.before.before.before; type_inv = record { middle = c.shared_slice_known-2-1.given; words = c.slice_known-1.given } }), not-false c.gate_shape.result c.if-not-gate_shape.false, used)
+    simp (shape (record { before = c.before.before.before; type_inv = record { middle = c.shared_slice_known-2-1.given; words = c.slice_known-1.given } }), c.if-not-gate_shape.false, used)
 
 pub returns-then-not-used_below : goal.returns-then-not-used_below
-returns-then-not-used_below c = record { value = rw (left_over (goal.at.returns-then-not-used_below c).After-used_below, not-true c.used_below.result c.if-not-used_below.true); words_after = refused-not-fine 6 _ }
+returns-then-not-used_below c = record { value = rw (left_over (goal.at.returns-then-not-used_below c).After-used_below, c.if-not-used_below.true); words_after = refused-not-fine 6 _ }
 
 pub returns-in-Units : goal.returns-in-Units
 returns-in-Units c =
@@ -56,18 +56,18 @@ returns-in-Units c =
     let is : read_units (record_kind m a.j) (record_field m a.j) ≡ Units units = cc in
     let said = flip-read 7 a.j (record_kind m a.j) (record_field m a.j) units is in
     let count = c.wide-count.ensures.0 in
-    let words = record-stored m a.j _ _ units _ count c.two_bytes-table.ensures.0 c.four_numbers-pins.ensures said.1 in record { value = rw (left_over (goal.at.returns-in-Units c).After-used_below, not-false c.used_below.result c.if-not-used_below.false, said.0); words_after = λ e. c.store.ensures ∙ ap₂ (sets a.words.now) c.gate_index.ensures words }
+    let words = record-stored m a.j _ _ units _ count c.two_bytes-table.ensures.0 c.four_numbers-pins.ensures said.1 in record { value = rw (left_over (goal.at.returns-in-Units c).After-used_below, c.if-not-used_below.false, said.0); words_after = λ e. c.store.ensures ∙ ap₂ (sets a.words.now) c.gate_index.ensures words }
 
 pub returns-in-AboveHalf : goal.returns-in-AboveHalf
 returns-in-AboveHalf c =
     let a = c.args in
     let m = a.middle.now in
     let is : read_units (record_kind m a.j) (record_field m a.j) ≡ AboveHalf = cc in
-    let above = flip-above 7 a.j (record_kind m a.j) (record_field m a.j) is in record { value = rw (left_over (goal.at.returns-in-AboveHalf c).After-used_below, not-false c.used_below.result c.if-not-used_below.false, above); words_after = refused-not-fine 22 _ }
+    let above = flip-above 7 a.j (record_kind m a.j) (record_field m a.j) is in record { value = rw (left_over (goal.at.returns-in-AboveHalf c).After-used_below, c.if-not-used_below.false, above); words_after = refused-not-fine 22 _ }
 
 pub returns-in-Refused : goal.returns-in-Refused
 returns-in-Refused c =
     let a = c.args in
     let m = a.middle.now in
     let is : read_units (record_kind m a.j) (record_field m a.j) ≡ NoUnits = cc in
-    let bad = flip-bad 7 a.j (record_kind m a.j) (record_field m a.j) is in record { value = rw (left_over (goal.at.returns-in-Refused c).After-used_below, not-false c.used_below.result c.if-not-used_below.false, bad); words_after = refused-not-fine 7 _ }
+    let bad = flip-bad 7 a.j (record_kind m a.j) (record_field m a.j) is in record { value = rw (left_over (goal.at.returns-in-Refused c).After-used_below, c.if-not-used_below.false, bad); words_after = refused-not-fine 7 _ }

@@ -50,8 +50,8 @@ loop-gate-preserved c =
       omega (arith, l.invariant.0),
       next_more ws (l.gate - 1) (omega (arith, l.invariant.0)) l.next counted.result c.next_from.result c.requires counted.ensures
           (subst (NextLive ws l.next) after l.invariant.1)
-          made.0
-          made.1,
+          made.value
+          made.value_2,
     )
 
 pub returns : goal.returns

@@ -8,11 +8,8 @@ use borrow.Author.Tests.{lt-ltb, le-ltb}
 use lib.Dec.{ltb}
 use lib.ListN.{get_or}
 use Rattle.lists.proofs.Every.{passes_on, fails, ends, below-part}
+use Rattle.rules.proofs.all_below.Invariants.{Test}
 use Rattle.rules.proofs.all_below.Goals as goal
-
--- the test of a word
-abbrev Test : List ℕ → ℕ → ℕ → Bool
-Test words limit k = ltb (get_or words k 0) limit
 
 pub loop-i-init : goal.loop-i-init
 loop-i-init c =

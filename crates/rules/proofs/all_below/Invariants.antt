@@ -1,8 +1,17 @@
+use Prim.Native.Nat.{ℕ}
+use mathlib.Core.Bool.{Bool}
+use mathlib.Core.List.{List}
+use lib.Dec.{ltb}
+use lib.ListN.{get_or}
 use Prim.Native.Nat.{◌-◌, ◌≤◌}
 use mathlib.Core.Path.{◌≡◌}
 use lib.ListN.{take, drop}
 use Rattle.lists.specs.Lists.{all_below, every_from}
 use Rattle.rules.proofs.all_below.Given as goal
+
+-- the test of a word
+abbrev pub Test : List ℕ → ℕ → ℕ → Bool
+Test words limit k = ltb (get_or words k 0) limit
 
 abbrev pub invariant-loop-i : goal.invariant-loop-i
 invariant-loop-i l =

@@ -9,11 +9,8 @@ use lib.ListN.{get_or}
 use Rattle.area.specs.Layout.{inputs, pin_count, pin}
 use Rattle.area.proofs.Words.{gate-inside, pin-below, few-sources}
 use Rattle.sets.proofs.reads_marked.Goals.{In-loop-i}
+use Rattle.sets.proofs.reads_marked.Invariants.{Clear}
 use Rattle.sets.proofs.reads_marked.Goals as goal
-
--- a pin that reads no marked gate
-abbrev Clear : List ℕ → List ℕ → ℕ → ℕ → Type 0
-Clear area marks gate i = inputs area ≤ pin area gate i → get_or marks (pin area gate i) 0 ≡ 0
 
 pub inputs-inputs-requires : goal.inputs-inputs-requires
 inputs-inputs-requires c = omega (arith, c.requires.0.long)

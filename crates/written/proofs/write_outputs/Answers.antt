@@ -11,10 +11,8 @@ use Rattle.area.specs.Layout.{gates, output}
 use Rattle.area.proofs.Words.{output-source}
 use Rattle.image.specs.Image.{record_bytes, output_bytes, middle_bytes}
 use Rattle.records.specs.Bytes.{two_bytes}
+use Rattle.written.proofs.write_outputs.Invariants.{word}
 use Rattle.written.proofs.write_outputs.Goals as goal
-
-abbrev word : List ℕ → ℕ → List ℕ
-word ws k = two_bytes (output ws k)
 
 pub gates-base-requires : goal.gates-base-requires
 gates-base-requires c = omega (arith, c.requires.0.net.long)
