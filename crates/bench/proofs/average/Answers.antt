@@ -14,9 +14,8 @@ average-requires c =
 pub returns-in-Fine : goal.returns-in-Fine
 returns-in-Fine c =
     let at-judge-average = c.judge_average in
-    let at-enum-told = c.enum_told-1 in
     let at-average = c.average in
-    let e = sym at-judge-average.ensures ∙ at-enum-told.given.1 in record { value = rw (e, at-average.ensures.value) refl; area_after = rw e at-average.ensures.area_after }
+    let e = sym at-judge-average.ensures ∙ c.in-Fine.is in record { value = rw (e, at-average.ensures.value) refl; area_after = rw e at-average.ensures.area_after }
 
 pub returns-in-Refused : goal.returns-in-Refused
 returns-in-Refused c =

@@ -22,8 +22,7 @@ pub returns-in-Fine : goal.returns-in-Fine
 unfolding argument_judgement
 returns-in-Fine c =
     let at-judge = c.judge in
-    let at-enum-told = c.enum_told-1 in
-    let passed = sound c.args.area.now (sym at-judge.ensures ∙ at-enum-told.given.1) in
+    let passed = sound c.args.area.now (sym at-judge.ensures ∙ c.in-Fine.is) in
     rw (lent-sound c.args.area.now read_netlist passed) (c.units_as_f64.result, refl, c.units_as_f64.ensures)
 
 pub returns-in-Refused : goal.returns-in-Refused

@@ -16,9 +16,8 @@ toggle-requires c =
 pub returns-in-Fine : goal.returns-in-Fine
 returns-in-Fine c =
     let at-judge-toggle = c.judge_toggle in
-    let at-enum-told = c.enum_told-1 in
     let at-index = c.index in
-    let e = sym at-judge-toggle.ensures ∙ at-enum-told.given.1 in record { value = rw e refl; area_after = rw e (c.toggle.ensures ∙ ap (toggle_words c.args.area.now) at-index.ensures) }
+    let e = sym at-judge-toggle.ensures ∙ c.in-Fine.is in record { value = rw e refl; area_after = rw e (c.toggle.ensures ∙ ap (toggle_words c.args.area.now) at-index.ensures) }
 
 pub returns-in-Refused : goal.returns-in-Refused
 returns-in-Refused c =

@@ -6,8 +6,8 @@ use Rattle.bench_c.proofs.bench_compare.Goals as goal
 pub returns-in-Done : goal.returns-in-Done
 returns-in-Done c =
     let e = sym c.compare-answer.ensures ∙ c.in-Done.is in
-    let known = c.answer-1.given.0 in let all = rw e (refl, c.result_words.ensures ∙ ap (result_words known.0 known.1.0 known.1.1.0) c.pattern_counts.ensures) in record { value = all.0; res_after = all.1 }
+    let known = c.answer-1.given.0 in rw e (record { value = refl; res_after = c.result_words.ensures ∙ ap (result_words known.0 known.1.0 known.1.1.0) c.pattern_counts.ensures })
 
 pub returns-in-Refused : goal.returns-in-Refused
 returns-in-Refused c =
-    let e = sym c.compare-answer.ensures ∙ c.in-Refused.is in let all = rw e (c.refused_image.ensures, refl) in record { value = all.0; res_after = all.1 }
+    let e = sym c.compare-answer.ensures ∙ c.in-Refused.is in rw e (record { value = c.refused_image.ensures; res_after = refl })

@@ -13,7 +13,7 @@ use Rattle.blif.proofs.read_blif.Goals as goal
 
 pub returns-then-text-gt-MOST_BYTES : goal.returns-then-text-gt-MOST_BYTES
 returns-then-text-gt-MOST_BYTES c =
-    let a = c.args in let all = rw (too_long a.text.now (length a.image.now) c.if-text-gt-MOST_BYTES.true) (refl, refl) in record { value = all.0; image_after = all.1 }
+    let a = c.args in rw (too_long a.text.now (length a.image.now) c.if-text-gt-MOST_BYTES.true) (record { value = refl; image_after = refl })
 
 pub read_model-requires : goal.read_model-requires
 read_model-requires c =

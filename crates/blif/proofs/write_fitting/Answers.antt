@@ -7,7 +7,7 @@ use Rattle.blif.proofs.write_fitting.Goals as goal
 
 pub returns-then-image-needed : goal.returns-then-image-needed
 returns-then-image-needed c =
-    let a = c.args in let all = rw (short c.requires.resolved c.requires.placed (length a.image.now) c.if-image-needed.true) (refl, refl) in record { value = all.0; image_after = all.1 }
+    let a = c.args in rw (short c.requires.resolved c.requires.placed (length a.image.now) c.if-image-needed.true) (record { value = refl; image_after = refl })
 
 pub write_image-requires : goal.write_image-requires
 write_image-requires c =
@@ -16,4 +16,4 @@ write_image-requires c =
 pub returns : goal.returns
 returns c =
     let at-if1 = c.if-image-needed in
-    let a = c.args in let all = rw (fits c.requires.resolved c.requires.placed (length a.image.now) at-if1.false) (ap BlifDone (same_length c.requires.resolved c.requires.placed), over c.requires.resolved c.requires.placed a.image.now _ at-if1.false c.write_image.ensures) in record { value = all.0; image_after = all.1 }
+    let a = c.args in rw (fits c.requires.resolved c.requires.placed (length a.image.now) at-if1.false) (record { value = ap BlifDone (same_length c.requires.resolved c.requires.placed); image_after = over c.requires.resolved c.requires.placed a.image.now _ at-if1.false c.write_image.ensures })

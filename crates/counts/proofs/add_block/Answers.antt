@@ -3,10 +3,8 @@ use Rattle.counts.proofs.add_block.Goals as goal
 
 pub returns-in-Flip : goal.returns-in-Flip
 returns-in-Flip c =
-    let at-enum-told = c.enum_told-1 in
-    rw at-enum-told.given.1 c.add_flips.ensures
+    rw c.in-Flip.is c.add_flips.ensures
 
 pub returns-in-Mask : goal.returns-in-Mask
 returns-in-Mask c =
-    let at-enum-told2 = c.enum_told-in-Mask-1 in
-    rw at-enum-told2.given.1 c.add_masks.ensures
+    rw c.in-Mask.is c.add_masks.ensures

@@ -26,7 +26,7 @@ loop-at-init c =
     let at-zero-counts = c.zero_counts in
     let ws = c.args.area.now in (
       omega arith,
-      counted_start c.args.method (net_of ws [] []) c.args.patterns.now at-zero-counts.new.0
+      counted_start c.args.method (net_of ws [] []) c.args.patterns.now at-zero-counts.new.counts
           (λ j l. at-zero-counts.ensures.none j (omega (arith, gate_count ws [] [], at-gates.ensures))),
     )
 
@@ -42,7 +42,7 @@ add_block-requires c =
     let a = c.args in
     let ws = a.area.now in
     let part = length-take (at-smaller.result - l.at) (drop l.at a.patterns.now) in
-    let ready = counted_ready a.method (net_of ws [] []) a.patterns.now at-zero-counts.new.0 l.at l.counts c.requires.1
+    let ready = counted_ready a.method (net_of ws [] []) a.patterns.now at-zero-counts.new.counts l.at l.counts c.requires.1
     (omega (arith, gate_count ws [] [], at-zero-counts.ensures.long, c.requires.2))
     l.invariant.1 in record { net_sound = (c.requires.0, omega (arith, part, at-smaller.ensures, min-le_left (l.at + 64) (length a.patterns.now))); counts_ready = rw (gate_count ws [] []) at ready }
 
@@ -62,8 +62,8 @@ loop-at-preserved c =
     let a = c.args in
     let size = length a.patterns.now in (
       omega (arith, at-smaller.ensures, min-le_right (l.at + 64) size),
-      counted-block a.method (net_of a.area.now [] []) a.patterns.now at-zero-counts.new.0 l.at at-smaller.result l.counts
-          at-add-block.new.0
+      counted-block a.method (net_of a.area.now [] []) a.patterns.now at-zero-counts.new.counts l.at at-smaller.result l.counts
+          at-add-block.new.counts
           (omega (arith, at-smaller.ensures, next-end l.at size (omega arith)))
           l.invariant.1
           at-add-block.ensures,
@@ -76,8 +76,8 @@ returns c =
     let l = c.loop-at in
     let a = c.args in
     let ws = a.area.now in
-    let whole = counted-whole a.method (net_of ws [] []) a.patterns.now at-zero-counts.new.0 l.at l.counts (omega arith)
+    let whole = counted-whole a.method (net_of ws [] []) a.patterns.now at-zero-counts.new.counts l.at l.counts (omega arith)
     (omega (arith, gate_count ws [] [], at-zero-counts.ensures.long, c.requires.2))
     l.invariant.1 in
-    let rest = drop-zeroed (layout.gates ws) a.counts.now at-zero-counts.new.0 (rw at-gates.ensures at at-zero-counts.ensures) in
+    let rest = drop-zeroed (layout.gates ws) a.counts.now at-zero-counts.new.counts (rw at-gates.ensures at at-zero-counts.ensures) in
     rw (gate_count ws [] []) at whole ∙ ap (λ (xs : List ℕ). seen_counts a.method (net_of ws [] []) a.patterns.now ++ xs) rest

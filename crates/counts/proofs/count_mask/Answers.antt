@@ -23,4 +23,4 @@ pass_mask-requires c =
 pub returns : goal.returns
 returns c =
     let at-gate-word = c.gate_word-mask in
-    let at-add-ones = c.add_ones in let all = rw (← at-gate-word.ensures) (at-add-ones.ensures.counts_after, (at-add-ones.ensures.word_bound, c.pass_mask.ensures)) in record { counts_after = all.0; gate_bound = all.1; mask_passed = all.2 }
+    let at-add-ones = c.add_ones in rw (← at-gate-word.ensures) (record { counts_after = at-add-ones.ensures.counts_after; gate_bound = at-add-ones.ensures.word_bound; mask_passed = c.pass_mask.ensures })

@@ -13,19 +13,18 @@ pub follow-stop-requires : goal.follow-stop-requires
 follow-stop-requires c =
     let at-inputs = c.inputs-inputs in
     let at-larger = c.larger in
-    let a = c.args in let all = rw (at-larger.ensures, c.larger-2.ensures, at-inputs.ensures) (
-      c.requires.net_sound,
-      follow-first a.area.now a.words.now c.requires.net_sound.0 a.gate a.first.now a.end.now c.requires.net_sound.2 c.requires.gate_bound.0
-          a.changed.now a.by c.requires.gate_bound.1,
-    ) in record { net_sound = all.0; following = all.1 }
+    let a = c.args in rw (at-larger.ensures, c.larger-2.ensures, at-inputs.ensures) (record {
+      net_sound = c.requires.net_sound;
+      following = follow-first a.area.now a.words.now c.requires.net_sound.0 a.gate a.first.now a.end.now c.requires.net_sound.2 c.requires.gate_bound.0
+          a.changed.now a.by c.requires.gate_bound.1;
+    })
 
 pub clear-requires : goal.clear-requires
 clear-requires c =
     let at-inputs = c.inputs-inputs in
     let at-follow = c.follow-stop in
     let ws = c.args.area.now in
-    let f = at-follow.ensures in let all = rw at-inputs.ensures
-    ((f.0.long, omega (arith, f.1.0, few-sources ws c.requires.net_sound.0)), (f.0.before, f.1.1)) in record { changed_len = all.0; by_index = all.1; by_index_2 = all.2 }
+    let f = at-follow.ensures in rw at-inputs.ensures (record { changed_len = (f.0.long, omega (arith, f.1.0, few-sources ws c.requires.net_sound.0)); by_index = f.0.before; by_index_2 = f.1.1 })
 
 pub returns : goal.returns
 returns c =
@@ -36,4 +35,4 @@ returns c =
     let f = at-follow.ensures.flipped in
     let stored : get_or (set a.changed.now (layout.inputs ws + a.gate) a.by) (layout.inputs ws + a.gate) 0 ≡ a.by
     = get_or-set_same a.changed.now (layout.inputs ws + a.gate) a.by 0
-    (omega (arith, c.requires.gate_bound.1.long, few-sources ws c.requires.net_sound.0, c.requires.gate_bound.0)) in record { seen_in = record { changed = at-follow.new.0; flipped = rw stored at (rw at-inputs.ensures at f); seen = c.output_lanes-seen.ensures }; unchanged = c.clear.ensures }
+    (omega (arith, c.requires.gate_bound.1.long, few-sources ws c.requires.net_sound.0, c.requires.gate_bound.0)) in record { seen_in = record { changed = at-follow.new.changed; flipped = rw stored at (rw at-inputs.ensures at f); seen = c.output_lanes-seen.ensures }; unchanged = c.clear.ensures }

@@ -33,12 +33,10 @@ returns c =
     let f = c.requires.following in
     let reads = c.requires.net_sound.2 in
     let inside : w.gate < layout.gates ws = omega (arith, c.requires.gate_lt_stop, f.after.2) in
-    let source = layout.inputs ws + w.gate in let all = rw (c.next_gate.ensures, c.larger.ensures, at-inputs.ensures) (
-      (refl, next-later w.gate w.stop (get_or a.first.now source 0)),
-      (
-        follow-next ws a.words.now c.requires.net_sound.0 w.flipped a.first.now a.end.now reads w.gate w.stop at-difference.result
-            a.changed.now f inside c.requires.gate_lt_stop at-difference.ensures,
-        elsewhere ws a.words.now c.requires.net_sound.0 w.flipped a.first.now a.end.now reads w.gate w.stop at-difference.result
-            a.changed.now f inside c.requires.gate_lt_stop at-difference.ensures (layout.inputs ws + w.flipped) (λ e. omega (arith, f.after.0)),
-      ),
-    ) in record { flipped_value = all.0; following_2 = all.1; flipped_unchanged = all.2 }
+    let source = layout.inputs ws + w.gate in rw (c.next_gate.ensures, c.larger.ensures, at-inputs.ensures) (record {
+      flipped_value = (refl, next-later w.gate w.stop (get_or a.first.now source 0));
+      following_2 = follow-next ws a.words.now c.requires.net_sound.0 w.flipped a.first.now a.end.now reads w.gate w.stop at-difference.result
+          a.changed.now f inside c.requires.gate_lt_stop at-difference.ensures;
+      flipped_unchanged = elsewhere ws a.words.now c.requires.net_sound.0 w.flipped a.first.now a.end.now reads w.gate w.stop at-difference.result
+          a.changed.now f inside c.requires.gate_lt_stop at-difference.ensures (layout.inputs ws + w.flipped) (λ e. omega (arith, f.after.0));
+    })

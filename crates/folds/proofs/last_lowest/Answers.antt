@@ -28,7 +28,7 @@ pub first_row-requires : goal.first_row-requires
 first_row-requires c =
     let a = c.args in
     pin-fits a.area.now a.rows.now a.gate c.requires.rows_ready.0 a.right a.shift c.requires.rows_ready.1 a.pins a.number c.requires.inputs_below.1
-    c.Load-row.result (rw c.pin.ensures at c.Load-row.ensures)
+    c.load_row.result (rw c.pin.ensures at c.load_row.ensures)
 
 pub returns : goal.returns
 returns c l less =
@@ -38,7 +38,7 @@ returns c l less =
     let at-wrong-lanes2 = c.wrong_lanes-2 in
     let a = c.args in
     let turned = at-inverted in
-    let row = c.Load-row.ensures l less ∙ ap (λ (c : ℕ). row_at a.rows.now c l) at_pin.ensures in
+    let row = c.load_row.ensures l less ∙ ap (λ (c : ℕ). row_at a.rows.now c l) at_pin.ensures in
     c.first_row.ensures l less
     ∙ lowest-made a.area.now a.rows.now a.gate c.requires.rows_ready.0 a.right a.shift c.requires.rows_ready.1 a.pins a.number c.requires.inputs_below.1
     turned.result turned.ensures l less

@@ -43,8 +43,8 @@ fold_row-requires c =
     let right = c.last_two-2 in
     let wrong = c.last_two-3 in
     fold-ready a.area.now a.rows.now a.gate c.requires.rows_ready.0 a.right a.shift c.requires.rows_ready.1 a.pins 2 (used (goal.at.fold_row-requires c).Start)
-    c.inverted-wrong.result right.result wrong.result c.Load-row.result _
-    c.pin-source.ensures right.ensures wrong.ensures c.Load-row.ensures
+    c.inverted-wrong.result right.result wrong.result c.load_row.result _
+    c.pin-source.ensures right.ensures wrong.ensures c.load_row.ensures
 
 pub returns : goal.returns
 returns c =
@@ -52,7 +52,7 @@ returns c =
     let right = c.last_two-2 in
     let wrong = c.last_two-3 in
     let turned = c.inverted-wrong in
-    let row = c.Load-row in
+    let row = c.load_row in
     fold-made a.area.now a.rows.now a.gate c.requires.rows_ready.0 a.right a.shift c.requires.rows_ready.1 a.pins 2 (used (goal.at.returns c).Start) turned.result
     right.result wrong.result row.result _
     c.pin-source.ensures right.ensures wrong.ensures row.ensures

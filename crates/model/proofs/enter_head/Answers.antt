@@ -8,7 +8,7 @@ pub bounds-heads-count : goal.bounds-heads-count
 bounds-heads-count c = c.requires.count_in_bounds (eq-eqb _ _ c.if-key-eq-GATES.true)
 
 pub returns-then-key-eq-GATES : goal.returns-then-key-eq-GATES
-returns-then-key-eq-GATES c = let all = rw (eq-eqb _ _ c.if-key-eq-GATES.true) (refl, refl) in record { value = all.0; heads_after = all.1 }
+returns-then-key-eq-GATES c = rw (eq-eqb _ _ c.if-key-eq-GATES.true) (record { value = refl; heads_after = refl })
 
 pub returns : goal.returns
-returns c = let all = rw (ne_eqb _ _ c.if-key-eq-GATES.false, add-zero) (refl, refl) in record { value = all.0; heads_after = all.1 }
+returns c = rw (ne_eqb _ _ c.if-key-eq-GATES.false, add-zero) (record { value = refl; heads_after = refl })
