@@ -19,7 +19,7 @@ write_fitting-requires c = record { resolved = c.requires; placed = c.order_gate
 pub returns-in-Fine : goal.returns-in-Fine
 returns-in-Fine c =
     let a = c.args in
-    let ls = lines_from a.text.now a.starts.now a.lines.now a.n 0 in let all = goes_on (loops_fault ls) (room_fault ls (length a.image.now)) (model_length ls) (image_over ls a.image.now) a.image.now _ _ (sym (c.order_gates.ensures.value ∙ same-loops c.requires) ∙ c.in-Fine.is) c.write_fitting.ensures in record { value = all.0; image_after = all.1 }
+    let ls = lines_from a.text.now a.starts.now a.lines.now a.n 0 in let all = goes_on (loops_fault ls) (room_fault ls (length a.image.now)) (model_length ls) (image_over ls a.image.now) a.image.now _ _ (sym (c.order_gates.ensures.value ∙ same-loops c.requires) ∙ c.in-Fine.is) (c.write_fitting.ensures.value, c.write_fitting.ensures.image_after) in record { value = all.0; image_after = all.1 }
 
 pub returns-in-Refused : goal.returns-in-Refused
 returns-in-Refused c =

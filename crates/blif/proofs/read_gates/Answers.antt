@@ -27,7 +27,7 @@ pub returns-in-Fine : goal.returns-in-Fine
 returns-in-Fine c =
     let a = c.args in
     let ls = lines_from a.text.now a.starts.now a.lines.now a.n 0 in let all = goes_on (sources_fault ls) (placed_refusal ls (length a.image.now)) (model_length ls) (image_over ls a.image.now) a.image.now _ _
-    (sym (c.resolve_gates.ensures.by_index a.numbers.now ∙ same-sources c.requires.named) ∙ c.in-Fine.is) c.place_model.ensures in record { value = all.0; image_after = all.1 }
+    (sym (c.resolve_gates.ensures.by_index a.numbers.now ∙ same-sources c.requires.named) ∙ c.in-Fine.is) (c.place_model.ensures.value, c.place_model.ensures.image_after) in record { value = all.0; image_after = all.1 }
 
 pub returns-in-Refused : goal.returns-in-Refused
 returns-in-Refused c =

@@ -44,7 +44,7 @@ returns-in-Fine c =
     let at-collect = c.collect-inputs in
     let a = c.args in
     let ls = lines_from a.text.now a.starts.now a.lines.now a.n 0 in let all = goes_on (again_fault (defined ls)) (outputs_refusal ls (length a.image.now)) (model_length ls) (image_over ls a.image.now) a.image.now _ _
-    (ap again_fault (sym (all-defined c.requires.words c.requires.within.0 c.requires.within.1 at-collect.ensures at-collect2.ensures)) ∙ sym c.judge_again.ensures ∙ c.in-Fine.is) c.read_outputs.ensures in record { value = all.0; image_after = all.1 }
+    (ap again_fault (sym (all-defined c.requires.words c.requires.within.0 c.requires.within.1 at-collect.ensures at-collect2.ensures)) ∙ sym c.judge_again.ensures ∙ c.in-Fine.is) (c.read_outputs.ensures.value, c.read_outputs.ensures.image_after) in record { value = all.0; image_after = all.1 }
 
 pub returns-in-Refused : goal.returns-in-Refused
 returns-in-Refused c =

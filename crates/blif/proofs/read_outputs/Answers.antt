@@ -29,7 +29,7 @@ returns-in-Fine c =
     let at-collect = c.collect-outputs in
     let a = c.args in
     let ls = lines_from a.text.now a.starts.now a.lines.now a.n 0 in let all = goes_on (unknown_fault (defined ls) (listed outputs_key ls)) (gates_refusal ls (length a.image.now)) (model_length ls) (image_over ls a.image.now) a.image.now _ _
-    (sym (c.resolve.ensures.by_index a.numbers.now ∙ same_outputs c.requires at-collect.ensures) ∙ c.in-Fine.is) c.read_gates.ensures in record { value = all.0; image_after = all.1 }
+    (sym (c.resolve.ensures.by_index a.numbers.now ∙ same_outputs c.requires at-collect.ensures) ∙ c.in-Fine.is) (c.read_gates.ensures.value, c.read_gates.ensures.image_after) in record { value = all.0; image_after = all.1 }
 
 pub returns-in-Refused : goal.returns-in-Refused
 returns-in-Refused c =

@@ -24,7 +24,7 @@ clear-requires c =
     let at-inputs = c.inputs-inputs in
     let at-follow = c.follow-stop in
     let ws = c.args.area.now in
-    let f = at-follow.ensures in rw at-inputs.ensures (record { changed_len = (f.0.long, omega (arith, f.1.0, few-sources ws c.requires.net_sound.0)); by_index = f.0.before; by_index_2 = f.1.1 })
+    let f = at-follow.ensures in rw at-inputs.ensures (record { changed_len = (f.flipped.long, omega (arith, f.upper_bound.0, few-sources ws c.requires.net_sound.0)); by_index = f.flipped.before; by_index_2 = f.upper_bound.1 })
 
 pub returns : goal.returns
 returns c =

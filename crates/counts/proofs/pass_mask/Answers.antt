@@ -1,13 +1,12 @@
 -- `counts::pass_mask` meets its contract: pin by pin. Assumes nothing.
 use Prim.Native.Nat.{◌-◌, ◌<◌}
-use mathlib.Core.Logic.{⊎_elim}
 use mathlib.Core.Path.{◌≡◌}
 use native.Mathlib.Omega.{arith}
 use Rattle.area.specs.Layout as layout
 use Rattle.area.proofs.Words.{pin-below, gate-inside, few-sources}
 use Rattle.counts.proofs.Right.{pins-answer, pins-sensitive}
 use Rattle.counts.proofs.Masks.{passed_none, passed-by, passed-more}
-use Rattle.counts.proofs.pass_mask.Goals.{After-pin-source}
+use Rattle.counts.proofs.pass_mask.Goals.{then-inputs-source, else-inputs-source, After-pin-source}
 use Rattle.counts.proofs.pass_mask.Goals as goal
 
 pub inputs-inputs-requires : goal.inputs-inputs-requires
@@ -87,14 +86,14 @@ loop-i-preserved c =
     let more = passed-more ws a.words.now c.requires.net_sound.0 a.gate c.requires.net_sound.2 l.i here a.masks.now l.masks in
     let by = passed-by ws a.words.now c.requires.net_sound.0 a.gate c.requires.net_sound.2 l.i here a.masks.now l.masks l.invariant.1 in (
       omega arith,
-      ⊎_elim
-          (λ w.
-          let lanes = rw (at_table.ensures, at-pin-count.ensures, at-pin-words.ensures) at w.1.ensures in
-          rw (w.3, at_pin.ensures)
-          (more w.1.result a.mask l.invariant.1 c.requires.masks_len.1 (source-inside (goal.at.loop-i-preserved c).After-pin-source)
-          (pins-sensitive ws a.words.now a.gate w.1.result l.i lanes)))
-          (λ w. rw w.1 (by (omega (arith, w.0.left, at_pin.ensures, at-inputs.ensures))))
-          c.if-inputs-source.branch,
+      elim c.if-inputs-source.branch [
+        | then-inputs-source w ↦
+            let lanes = rw (at_table.ensures, at-pin-count.ensures, at-pin-words.ensures) at w.sensitive_word.ensures in
+            rw (w.masks-is, at_pin.ensures)
+            (more w.sensitive_word.result a.mask l.invariant.1 c.requires.masks_len.1 (source-inside (goal.at.loop-i-preserved c).After-pin-source)
+            (pins-sensitive ws a.words.now a.gate w.sensitive_word.result l.i lanes))
+        | else-inputs-source w ↦ rw w.masks-is (by (omega (arith, w.if-inputs-source.false, at_pin.ensures, at-inputs.ensures)))
+      ],
     )
 
 pub returns : goal.returns

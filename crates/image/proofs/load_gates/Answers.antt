@@ -15,7 +15,7 @@ loop-j-preserved c =
     let a = c.args in
     let step = c.load_gate in
     let place = gate-place a.middle.now l.j in
-    (omega arith, goes_on l.invariant.1 (gate_index l.j) step.result _ place step.ensures c.in-Fine.is)
+    (omega arith, goes_on l.invariant.1 (gate_index l.j) step.result _ place (step.ensures.value, step.ensures.words_after) c.in-Fine.is)
 
 pub returns-in-Refused : goal.returns-in-Refused
 returns-in-Refused c =

@@ -15,7 +15,7 @@ loop-k-preserved c =
     let a = c.args in
     let step = c.load_output in
     let place = output-place a.middle.now a.gates l.k in
-    (omega arith, goes_on l.invariant.1 (outputs_index a.gates + l.k) step.result _ place step.ensures c.in-Fine.is)
+    (omega arith, goes_on l.invariant.1 (outputs_index a.gates + l.k) step.result _ place (step.ensures.value, step.ensures.words_after) c.in-Fine.is)
 
 pub returns-in-Refused : goal.returns-in-Refused
 returns-in-Refused c =
