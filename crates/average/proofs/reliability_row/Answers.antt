@@ -36,7 +36,7 @@ module _ (c : After-index-source) where
   here = c.index-source.ensures ∙ c.output.ensures ∙ output-at (ws (record { before = c.before.before.before; type_inv = record { area = c.shared_slice_known-1.given } })) (k (record { before = c.before.before.before; type_inv = record { area = c.shared_slice_known-1.given } })) (used (record { before = c.before.before.before; type_inv = record { area = c.shared_slice_known-1.given } }))
 
   fits : (l : ℕ) → l < row_length → row_at c.args.rows.now c.index-source.result l ≤ units_in_one
-  fits l less = subst (λ (x : ℕ). row_at c.args.rows.now x l ≤ units_in_one) (sym here) (c.pre.1 (k (record { before = c.before.before.before; type_inv = record { area = c.shared_slice_known-1.given } })) l (inside (record { before = c.before.before.before; type_inv = record { area = c.shared_slice_known-1.given } })) less)
+  fits l less = subst (λ (x : ℕ). row_at c.args.rows.now x l ≤ units_in_one) (sym here) (c.requires.1 (k (record { before = c.before.before.before; type_inv = record { area = c.shared_slice_known-1.given } })) l (inside (record { before = c.before.before.before; type_inv = record { area = c.shared_slice_known-1.given } })) less)
 
 pub outputs-count-requires : goal.outputs-count-requires
 outputs-count-requires c =

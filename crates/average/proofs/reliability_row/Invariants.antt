@@ -11,8 +11,8 @@ use Rattle.average.proofs.reliability_row.Given as goal
 abbrev pub invariant-loop-k : goal.invariant-loop-k
 invariant-loop-k l =
     (l.k ≤ l.count) × RowFits l.row
-    × ((l : ℕ) → l < row_length
-    → product_from (row_word l.rows l) (get_or l.row l 0) (drop l.k (output_words l.area)) ≡ product_from (row_word l.rows l) units_in_one (output_words l.area))
+    × ((m : ℕ) → m < row_length
+    → product_from (row_word l.rows m) (get_or l.row m 0) (drop l.k (output_words l.area)) ≡ product_from (row_word l.rows m) units_in_one (output_words l.area))
 
 abbrev pub decreases-loop-k : goal.decreases-loop-k
 decreases-loop-k l = l.count - l.k

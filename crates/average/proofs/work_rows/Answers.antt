@@ -1,29 +1,21 @@
 -- `average::work_rows` meets its contract: the rows of the live gates before the one reached are there, and those from it on are held. Assumes nothing.
 use Prim.Native.Nat.{ℕ, ◌+◌, ◌-◌, ◌*◌, ◌≤◌, ◌<◌}
 use mathlib.Core.List.{List}
-use mathlib.Core.Logic.{⊎_elim}
 use mathlib.Core.Path.{◌≡◌, refl, sym, ap, ◌∙◌}
 use native.Mathlib.Omega.{arith}
-use borrow.Author.Tests.{eqb-true, not-false}
+use borrow.Author.Tests.{eqb-true}
 use lib.ListN.{get_or}
 use Rattle.area.specs.Layout.{most_sources, inputs, gates}
 use Rattle.plan.specs.Plan.{IsLive, LiveFrom}
 use Rattle.rows.specs.Rows.{row_length}
 use Rattle.average.specs.Blocks.{RowsKept, Block, HeldFrom}
 use Rattle.average.proofs.BlockWords.{block_held, block-ready, block-right, block-live, block-next, kept-live, held-live}
-use Rattle.average.proofs.work_rows.Goals.{In-loop-gate, Start}
+use Rattle.average.proofs.work_rows.Invariants.{Reached}
+use Rattle.average.proofs.work_rows.Goals.{then-not-same_row, else-not-same_row, In-loop-gate, Start}
 use Rattle.average.proofs.work_rows.Goals as goal
 
--- what is known when a gate has been reached
-record Reached (ws unseen rows : List ℕ) (held number gate : ℕ) : Type 0 where
-  few : gate ≤ gates ws
-  live : gate < gates ws → IsLive ws (inputs ws + gate)
-  kept : RowsKept ws rows
-  block : Block ws rows (row_length * number) gate
-  rest : HeldFrom ws unseen rows held number gate
-
 -- the next live gate
-module _ (s : Start) where
+module _ (s : Start) (rows : List ℕ) (b x : ℕ) (found : LiveFrom s.args.area.now b x) where
   abbrev ws : List ℕ
   ws = s.args.area.now
 
@@ -122,24 +114,24 @@ loop-gate-preserved c =
     let p = c.requires in
     let a = c.args in
     let start = row_length * a.number in
-    ⊎_elim
-    (λ w.
-    let stored = w.2.ensures.0 in
-    rw w.3
-    (reach (goal.at.loop-gate-preserved c).Start _ _ _ (after turn) (kept-live a.area.now p.workable.0 start l.rows _ l.gate _ (reached turn).kept stored w.2.ensures.1)
-    (block-live a.area.now p.workable.0 start l.rows (reached turn).kept l.gate (inside turn) (reached turn).block ((reached turn).live (inside turn))
-    a.words.now p.values_from.0 _ stored)
-    (held-live a.area.now a.unseen.now l.rows _ a.held a.number l.gate _ stored (reached turn).rest)))
-    (λ w.
-    let same = eqb-true _ _ (sym (rw (place turn) at c.same_row.ensures) ∙ not-false _ w.0.left) in
-    rw w.1
-    (reach (goal.at.loop-gate-preserved c).Start _ _ _ (after turn) (reached turn).kept
-    (block_held a.area.now p.workable.0 start l.rows (reached turn).kept l.gate (inside turn) (reached turn).block a.unseen.now a.held a.number
-    refl
-    (reached turn).rest
-    same)
-    (λ j from. (reached turn).rest j (omega arith))))
-    c.if-not-same_row.branch
+    elim c.if-not-same_row.branch [
+      | then-not-same_row w ↦
+          let stored = w.work_row.ensures.row_stored in
+          rw w.rows-is
+          (reach (goal.at.loop-gate-preserved c).Start _ _ _ (after turn) (kept-live a.area.now p.workable.0 start l.rows _ l.gate _ (reached turn).kept stored w.work_row.ensures.rows_len)
+          (block-live a.area.now p.workable.0 start l.rows (reached turn).kept l.gate (inside turn) (reached turn).block ((reached turn).live (inside turn))
+          a.words.now p.values_from.0 _ stored)
+          (held-live a.area.now a.unseen.now l.rows _ a.held a.number l.gate _ stored (reached turn).rest))
+      | else-not-same_row w ↦
+          let same = eqb-true _ _ (sym (rw (place turn) at c.same_row.ensures) ∙ w.if-not-same_row.false) in
+          rw w.rows-is
+          (reach (goal.at.loop-gate-preserved c).Start _ _ _ (after turn) (reached turn).kept
+          (block_held a.area.now p.workable.0 start l.rows (reached turn).kept l.gate (inside turn) (reached turn).block a.unseen.now a.held a.number
+          refl
+          (reached turn).rest
+          same)
+          (λ j from. (reached turn).rest j (omega arith)))
+    ]
 
 pub returns : goal.returns
 returns c =
