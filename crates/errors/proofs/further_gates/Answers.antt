@@ -1,6 +1,5 @@
 -- `errors::further_gates` meets its contract: after i turns those of the first i sources are counted. Assumes nothing.
 use Prim.Native.Nat.{ℕ, ◌+◌, ◌-◌}
-use mathlib.Core.Logic.{⊎_elim}
 use mathlib.Core.Path.{◌≡◌, refl, sym, ap, ◌∙◌}
 use native.Mathlib.Nat.{add-zero}
 use native.Mathlib.Omega.{arith}
@@ -10,6 +9,7 @@ use borrow.Author.Tests.{le-leb, lt-leb}
 use Rattle.lists.proofs.Sums.{sum_more}
 use Rattle.figure.specs.Figure.{bit_of}
 use Rattle.errors.proofs.Charges.{gates-among}
+use Rattle.errors.proofs.further_gates.Goals.{then-inputs-index, else-inputs-index}
 use Rattle.errors.proofs.further_gates.Goals as goal
 
 pub loop-i-init : goal.loop-i-init
@@ -21,16 +21,16 @@ loop-i-preserved c =
     let a = c.args in
     let read = c.index.ensures in
     let F : ℕ → ℕ = λ k. bit_of (leb a.inputs (get_or a.area.now (a.start + k) 0)) in
-    ⊎_elim
-    (λ w.
-    let one : F l.i ≡ 1 = ap bit_of (le-leb a.inputs (get_or a.area.now (a.start + l.i) 0) (omega (arith, w.0.taken, read))) in
-    let more = sum_more F l.i l.gates 1 l.invariant.2 (sym one) in
-    (omega arith, omega (arith, w.1), w.1 ∙ more))
-    (λ w.
-    let none : F l.i ≡ 0 = ap bit_of (lt-leb a.inputs (get_or a.area.now (a.start + l.i) 0) (omega (arith, w.0.left, read))) in
-    let more = sum_more F l.i l.gates 0 l.invariant.2 (sym none) in
-    (omega arith, omega (arith, w.1), w.1 ∙ sym (add-zero l.gates) ∙ more))
-    c.if-inputs-index.branch
+    elim c.if-inputs-index.branch [
+      | then-inputs-index w ↦
+          let one : F l.i ≡ 1 = ap bit_of (le-leb a.inputs (get_or a.area.now (a.start + l.i) 0) (omega (arith, w.if-inputs-index.true, read))) in
+          let more = sum_more F l.i l.gates 1 l.invariant.2 (sym one) in
+          (omega arith, omega (arith, w.gates-is), w.gates-is ∙ more)
+      | else-inputs-index w ↦
+          let none : F l.i ≡ 0 = ap bit_of (lt-leb a.inputs (get_or a.area.now (a.start + l.i) 0) (omega (arith, w.if-inputs-index.false, read))) in
+          let more = sum_more F l.i l.gates 0 l.invariant.2 (sym none) in
+          (omega arith, omega (arith, w.gates-is), w.gates-is ∙ sym (add-zero l.gates) ∙ more)
+    ]
 
 pub returns-then-gates-lt1 : goal.returns-then-gates-lt1
 returns-then-gates-lt1 c =
