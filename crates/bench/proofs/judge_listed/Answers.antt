@@ -5,7 +5,7 @@ use mathlib.Core.List.{List}
 use mathlib.Core.Logic.{⊎_elim}
 use mathlib.Core.Path.{◌≡◌, sym, ap, ◌∙◌}
 use native.Mathlib.Omega.{arith}
-use borrow.Author.Tests.{le-leb, lt-leb, ltb-true, ltb-false}
+use borrow.Author.Tests.{le-leb, lt-leb}
 use lib.Dec.{leb}
 use lib.ListN.{length}
 use Rattle.refusal.specs.declared.Judgement.{Judgement}
@@ -35,12 +35,12 @@ pub returns-then-patterns-lt1 : goal.returns-then-patterns-lt1
 returns-then-patterns-lt1 c =
     let a = c.args in
     sym
-    (⊎_elim (λ few. too_few a.inputs a.gates a.patterns.now a.slots few.taken)
-    (λ many. too_many a.inputs a.gates a.patterns.now a.slots many.0.left (ltb-true _ _ many.1.taken))
-    c.if-patterns-lt1.branch)
+    (⊎_elim (λ few. too_few a.inputs a.gates a.patterns.now a.slots few)
+    (λ many. too_many a.inputs a.gates a.patterns.now a.slots many.0 many.1)
+    c.then-patterns-lt1.either)
 
 pub judge_each-requires : goal.judge_each-requires
-judge_each-requires c = omega (arith, ltb-false)
+judge_each-requires c = omega arith
 
 -- once the length has passed, the patterns decide, then the slice
 module _ (c : After-judge_each) where
@@ -49,7 +49,7 @@ module _ (c : After-judge_each) where
       ≡ otherwise v (refuse_unless (leb c.args.gates c.args.slots) 17 0)
   listed v e =
       let a = c.args in
-      right-length a.inputs a.gates a.patterns.now a.slots v c.if-patterns-lt1.false (ltb-false _ _ c.if-patterns-gt-MOST_LISTED.false)
+      right-length a.inputs a.gates a.patterns.now a.slots v c.if-patterns-lt1.false c.if-patterns-gt-MOST_LISTED.false
       (sym e
       ∙ c.judge_each.ensures
       ∙ ap (λ (most : ℕ). lowest (word_judgement a.patterns.now most 16) (length a.patterns.now)) c.last_pattern.ensures)

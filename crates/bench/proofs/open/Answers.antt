@@ -12,7 +12,7 @@ open_loaded-requires c =
     let at_load = c.load in
     let bs = c.args.image.now in
     let accepted = sym at_load.ensures.value ∙ c.in-Fine.is in
-    let held : at_load.new.1.0 ≡ image_words bs ++ _ = at_load.ensures.words_after accepted in record { net_sound = rw held (loaded-workable bs _ accepted).net; by_index = λ rest. rw (loaded-front bs _ _ held) (loaded-workable bs rest accepted) }
+    let held : at_load.new.words ≡ image_words bs ++ _ = at_load.ensures.words_after accepted in record { net_sound = rw held (loaded-workable bs _ accepted).net; by_index = λ rest. rw (loaded-front bs _ _ held) (loaded-workable bs rest accepted) }
 
 pub returns-in-Fine : goal.returns-in-Fine
 returns-in-Fine c =
@@ -20,7 +20,7 @@ returns-in-Fine c =
     let at-open-loaded = c.open_loaded in
     let bs = c.args.image.now in
     let accepted = sym at_load.ensures.value ∙ c.in-Fine.is in
-    let held : at_load.new.1.0 ≡ image_words bs ++ _ = at_load.ensures.words_after accepted in
+    let held : at_load.new.words ≡ image_words bs ++ _ = at_load.ensures.words_after accepted in
     let j = open-judged bs _ _ held accepted (length c.args.area.now) in record { value = rw (j, open-live bs _ _ held) at-open-loaded.ensures.value; area_after = rw (j, open-words bs _ _ held c.args.area.now) at-open-loaded.ensures.area_after }
 
 pub returns-in-Refused : goal.returns-in-Refused

@@ -14,7 +14,7 @@ set_counted-requires c =
     let counted = c.count_live-counted.ensures in record { area_value = (sym c.judge_words.ensures ∙ c.in-Fine.is, counted.sum_value.0); by_index = counted.by_index }
 
 pub returns-in-Fine : goal.returns-in-Fine
-returns-in-Fine c = let all = c.set_counted.ensures in record { value = all.0; area_after = all.1 }
+returns-in-Fine c = record { value = c.set_counted.ensures.value; area_after = c.set_counted.ensures.area_after }
 
 pub returns-in-Refused : goal.returns-in-Refused
 returns-in-Refused c =

@@ -27,17 +27,16 @@ use Rattle.bench.proofs.set_known_flip.Goals.{After-index-in-Units, After-set_un
 use Rattle.bench.proofs.set_known_flip.Goals as goal
 
 -- the area keeps rule 14, and the gate is there
-passed : (s : Start) → Sound s.args.area.now
-passed s = (lent-fine s.args.area.now (read_gate s.args.gate) s.requires.gate_value).0
+module _ (ws : List ℕ) (g : ℕ) (known : lent_judgement ws (read_gate g) ≡ Fine) where
+  passed : Sound ws
+  passed = (lent-fine ws (read_gate g) known).0
 
-there : (s : Start) → s.args.gate < gates s.args.area.now
-there s =
-    let ws = s.args.area.now in
-    gate-fine (inputs ws) (gates ws) (outputs ws) s.args.gate (lent-fine ws (read_gate s.args.gate) s.requires.gate_value).1
+  there : g < gates ws
+  there = gate-fine (inputs ws) (gates ws) (outputs ws) g (lent-fine ws (read_gate g) known).1
 
 pub flip-old-requires : goal.flip-old-requires
 flip-old-requires c =
-    omega (arith, c.index.ensures, there (goal.at.flip-old-requires c).Start, (passed (goal.at.flip-old-requires c).Start).workable.net.long)
+    omega (arith, c.index.ensures, there c.args.area.now c.args.gate c.requires.gate_value, (passed c.args.area.now c.args.gate c.requires.gate_value).workable.net.long)
 
 -- the flip is accepted
 module _ (c : After-index-in-Units) where
@@ -58,7 +57,7 @@ module _ (c : After-index-in-Units) where
       ∙ c.in-Units.is)
 
   net : NetSound ws
-  net = (passed c.before.before.before.before.before.before.before.before.before).workable.net
+  net = (passed c.args.area.now c.args.gate c.requires.gate_value).workable.net
 
   -- what setting it leaves, but for the sum
   abbrev worked : List ℕ
@@ -72,19 +71,19 @@ module _ (c : After-index-in-Units) where
   had = ap₂ if_live c.requires.live_value.0 old-is
 
   enough : live_flip ws g ≤ c.args.sum
-  enough = subst (λ (sum : ℕ). live_flip ws g ≤ sum) (sym c.requires.live_value.1) (sum-has ws g (there c.before.before.before.before.before.before.before.before.before))
+  enough = subst (λ (sum : ℕ). live_flip ws g ≤ sum) (sym c.requires.live_value.1) (sum-has ws g (there c.args.area.now c.args.gate c.requires.gate_value))
 
   few : c.args.sum ≤ most_gates * largest_flip
   few =
       omega (
         arith,
         c.requires.live_value.1,
-        few-units ws largest_flip (passed c.before.before.before.before.before.before.before.before.before).workable.figures.flip_fits,
+        few-units ws largest_flip (passed c.args.area.now c.args.gate c.requires.gate_value).workable.figures.flip_fits,
         mul-le-mul_right largest_flip net.gates_fit,
       )
 
 pub set_units-requires : goal.set_units-requires
-set_units-requires c = record { workable = (passed (goal.at.set_units-requires c).Start).workable; gate_bound = omega (arith, c.index-in-Units.ensures, there (goal.at.set_units-requires c).Start); units_le_largest_flip = (accepted c).2 }
+set_units-requires c = record { workable = (passed c.args.area.now c.args.gate c.requires.gate_value).workable; gate_bound = omega (arith, c.index-in-Units.ensures, there c.args.area.now c.args.gate c.requires.gate_value); units_le_largest_flip = (accepted c).2 }
 
 pub changed_sum-requires : goal.changed_sum-requires
 changed_sum-requires c =
@@ -98,7 +97,7 @@ set_is c = c.set_units.ensures ∙ ap (λ (k : ℕ). set_words (ws c.before) k (
 pub store_sum-requires : goal.store_sum-requires
 store_sum-requires c =
     let past = (goal.at.store_sum-requires c).After-index-in-Units in
-    rw (set_is (goal.at.store_sum-requires c).After-set_units) (omega (arith, (same_set (ws past) (g past) (units past) (there (goal.at.store_sum-requires c).Start)).size, (net past).long))
+    rw (set_is (goal.at.store_sum-requires c).After-set_units) (omega (arith, (same_set (ws past) (g past) (units past) (there c.args.area.now c.args.gate c.requires.gate_value)).size, (net past).long))
 
 pub returns-in-Units : goal.returns-in-Units
 unfolding with_sum
@@ -118,7 +117,7 @@ returns-in-Units c =
       had past,
       has,
       c.requires.live_value.1,
-      set_sum (ws past) (g past) (units past) (there (goal.at.returns-in-Units c).Start) (net past),
+      set_sum (ws past) (g past) (units past) (there c.args.area.now c.args.gate c.requires.gate_value) (net past),
     ) in
     let flips = ap (set_words (ws past) (g past)) (sym (accepted past).1) in record { value = rw (accepted past).0 refl; area_after = rw judged (c.store_sum.ensures ∙ ap₂ stored_sum (set_is (goal.at.returns-in-Units c).After-set_units ∙ flips) (sum ∙ ap flip_sum flips)) }
 

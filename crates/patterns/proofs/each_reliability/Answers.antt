@@ -54,7 +54,7 @@ loop-first-preserved c =
       omega (arith, c.loop-first.invariant.1),
       done.rows_kept_2,
       done.known_2,
-      c.store_block.auto.0 ∙ c.loop-first.invariant.4,
+      c.store_block.auto.figures ∙ c.loop-first.invariant.4,
     )
 
 pub shape_of-figures : goal.shape_of-figures
