@@ -21,8 +21,8 @@ compare_modules-requires c =
     let long = length-replicate {A = ℕ} most_patterns 0 in record {
       inputs_le_most_inputs = omega (arith, few_inputs bs one.0, ap (λ (m : Module). m.inputs) one.1);
       most_patterns_in_bounds = (
-        omega (arith, long, c.read_module.auto.0),
-        omega (arith, long, c.read_module-in-Done.auto.0),
+        omega (arith, long, c.read_module.auto.figures),
+        omega (arith, long, c.read_module-in-Done.auto.figures),
       );
     }
 

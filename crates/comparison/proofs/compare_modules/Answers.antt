@@ -10,7 +10,7 @@ pub judge-verdict-requires : goal.judge-verdict-requires
 judge-verdict-requires c = omega arith
 
 pub compare_patterns-patterns-requires : goal.compare_patterns-patterns-requires
-compare_patterns-patterns-requires c = let all = c.requires in record { inputs_le_most_inputs = all.0; most_patterns_in_bounds = all.1 }
+compare_patterns-patterns-requires c = record { inputs_le_most_inputs = c.requires.inputs_le_most_inputs; most_patterns_in_bounds = c.requires.most_patterns_in_bounds }
 
 pub returns : goal.returns
 returns c =

@@ -31,6 +31,6 @@ unfolding patterns_between
 returns c =
     let a = c.args in
     let many = c.pattern_count-count.ensures.0 ∙ ap (λ (n : ℕ). 2 ^ n) c.index.ensures in
-    let f = pattern_verdict a.first (λ q. get_or a.first-figures.now q 0) a.second (λ q. get_or a.second-figures.now q 0) in
+    let f = pattern_verdict a.first (λ q. get_or a.first_figures.now q 0) a.second (λ q. get_or a.second_figures.now q 0) in
     rw (eq-eqb a.first.inputs a.second.inputs c.if-first-second.false)
     (ap Counted (c.count_patterns.ensures ∙ ap (counts_by f) many))

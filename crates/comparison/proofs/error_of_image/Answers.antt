@@ -13,21 +13,21 @@ pub error_halves-requires : goal.error_halves-requires
 error_halves-requires c =
     let bs = c.args.image.now in
     let t = c.«open» in
-    let fine = (opened-done bs _ _ t.ensures.0 c.in-Done.is).0 in
-    rw (t.ensures.1 ∙ opened-left bs fine) ((opened-workable bs fine).net, opened-trailer bs fine, opened-gates bs)
+    let fine = (opened-done bs _ _ t.ensures.value c.in-Done.is).0 in
+    rw (t.ensures.area_after ∙ opened-left bs fine) ((opened-workable bs fine).net, opened-trailer bs fine, opened-gates bs)
 
 pub returns-in-Done : goal.returns-in-Done
 returns-in-Done c =
     let bs = c.args.image.now in
     let t = c.«open» in
-    let told = opened-done bs _ _ t.ensures.0 c.in-Done.is in
+    let told = opened-done bs _ _ t.ensures.value c.in-Done.is in
     let halves = c.error_halves.ensures.value
-    ∙ ap (λ (ws : List ℕ). error_halves (net_of ws (image_kinds bs) [])) (t.ensures.1 ∙ opened-left bs told.0)
+    ∙ ap (λ (ws : List ℕ). error_halves (net_of ws (image_kinds bs) [])) (t.ensures.area_after ∙ opened-left bs told.0)
     ∙ opened-halves bs told.0 in
     rw told.0 (ap₂ Done halves told.1)
 
 pub returns-in-Refused : goal.returns-in-Refused
 returns-in-Refused c =
     let bs = c.args.image.now in
-    let e = opened-refused bs _ _ _ c.«open».ensures.0 c.in-Refused.is in
+    let e = opened-refused bs _ _ _ c.open.ensures.value c.in-Refused.is in
     rw e refl

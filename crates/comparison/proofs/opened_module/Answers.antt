@@ -62,7 +62,7 @@ equal_mean-average-requires c =
       count_nonzero = (
         c.pattern_count.ensures.1,
         omega
-            (arith, c.pattern_count.ensures.2, c.each_reliability.auto.0, c.requires.most_patterns_in_bounds),
+            (arith, c.pattern_count.ensures.2, c.each_reliability.auto.figures, c.requires.most_patterns_in_bounds),
         c.pattern_count.ensures.2,
       );
       by_index = λ q less.
@@ -96,8 +96,7 @@ overflow_cast-result-2 c =
     omega (
       arith,
       c.gates.ensures,
-      (workable
-          c).net.gates_fit,
+      (workable (goal.at.overflow_cast-result-2 c).Start).net.gates_fit,
     )
 
 pub outputs-requires : goal.outputs-requires
@@ -109,12 +108,11 @@ overflow_cast-result-3 c =
     omega (
       arith,
       c.outputs.ensures,
-      (workable
-          c).net.outputs_fit,
+      (workable (goal.at.overflow_cast-result-3 c).Start).net.outputs_fit,
     )
 
 pub shape_of-figures : goal.shape_of-figures
-shape_of-figures c = c.each_reliability.auto.0
+shape_of-figures c = c.each_reliability.auto.figures
 
 pub returns : goal.returns
 returns c =

@@ -9,19 +9,19 @@ pub opened_module-requires : goal.opened_module-requires
 opened_module-requires c =
     let bs = c.args.image.now in
     let t = c.«open» in
-    let told = opened-done bs _ _ t.ensures.0 c.in-Done.is in record { area_value = (t.ensures.1 ∙ opened-left bs told.0, told.0, told.1); most_patterns_in_bounds = c.requires }
+    let told = opened-done bs _ _ t.ensures.value c.in-Done.is in record { area_value = (t.ensures.area_after ∙ opened-left bs told.0, told.0, told.1); most_patterns_in_bounds = c.requires }
 
 pub shape_of-figures : goal.shape_of-figures
-shape_of-figures c = c.opened_module.auto.0
+shape_of-figures c = c.opened_module.auto.figures
 
 pub returns-in-Done : goal.returns-in-Done
 returns-in-Done c =
     let bs = c.args.image.now in
-    let told = opened-done bs _ _ c.«open».ensures.0
+    let told = opened-done bs _ _ c.open.ensures.value
     c.in-Done.is in
     let made = c.opened_module.ensures in record { value = rw told.0 (ap Done made.value); q_after = λ fine. made.by_index }
 
 pub returns-in-Refused : goal.returns-in-Refused
 returns-in-Refused c =
     let bs = c.args.image.now in
-    let e = opened-refused bs _ _ _ c.«open».ensures.0 c.in-Refused.is in record { value = rw e refl; q_after = λ fine. refused-not-fine _ _ (sym e ∙ fine) }
+    let e = opened-refused bs _ _ _ c.open.ensures.value c.in-Refused.is in record { value = rw e refl; q_after = λ fine. refused-not-fine _ _ (sym e ∙ fine) }
