@@ -14,7 +14,7 @@ use borrow.Author.Tests.{eqb-true}
 use Rattle.refusal.specs.declared.Judgement.TheVariants.{Fine, Refused}
 use Rattle.refusal.specs.Judgement.{lowest, refuse_unless}
 use Rattle.refusal.proofs.Laws.{fine-lowest, lowest-fine, lowest-answer, lowest-more, unless-fine}
-use Rattle.placing.specs.Placing.{Reads, Depends, via, loop_fault, passed, left, Kept, Placed}
+use Rattle.placing.specs.Placing.{Reads, Depends, via, loop_fault, left, Kept, Placed}
 use Rattle.placing.proofs.Via.{via-depends, depends-via}
 use Rattle.placing.proofs.Placed.{no_loop, left-none}
 use Rattle.placing.proofs.Loop.{none-ready, loop}

@@ -1,5 +1,5 @@
 -- Marks on gates: 0 not seen. Gates that are seen lie on a pile until their sources are seen too.
-use Rattle.std.specs.Prelude.{ℕ, ◌+◌, ◌-◌, ◌<◌, ◌≤◌, Bool, true, false, ◌≡◌, length, get_or}
+use Rattle.std.specs.Prelude.{ℕ, ◌+◌, ◌<◌, ◌≤◌, Bool, true, false, ◌≡◌, length, get_or}
 use mathlib.Core.List.{List, Memᴰ}
 use Rattle.area.specs.Layout.{most_gates}
 use Rattle.placing.specs.Placing.{Depends, left}

@@ -1,15 +1,15 @@
 -- Where no gate is ready, either all are placed or one depends on itself. Assumes nothing.
-use Prim.Native.Nat.{ℕ, zero, suc, ◌+◌, ◌-◌, ◌<◌, ◌≤◌}
-use mathlib.Core.Path.{◌≡◌, refl, ap, sym, subst, ◌∙◌}
-use mathlib.Core.Bool.{Bool, true, false, cond, not}
+use Prim.Native.Nat.{ℕ, zero, suc, ◌+◌, ◌-◌, ◌<◌}
+use mathlib.Core.Path.{◌≡◌, refl, subst}
+use mathlib.Core.Bool.{Bool, true, false}
 use mathlib.Core.List.{List, [], ◌∷◌, Memᴰ}
 use mathlib.Core.Logic.{⊎_elim}
 use native.Mathlib.Nat.{eq-or-lt_of_le, add-zero}
 use native.Mathlib.Omega.{arith}
-use lib.ListN.{length, get_or}
+use lib.ListN.{get_or}
 use lib.Dec.{eqb, ltb}
-use borrow.Author.Tests.{eq-eqb, ne_eqb, eqb-true, eqb-false, ltb-true, ltb-false, lt-ltb, le-ltb, not-true, not-false}
-use Rattle.placing.specs.Placing.{placed_source, all_placed, ready, passed, Reads, Depends, direct, further}
+use borrow.Author.Tests.{eq-eqb, eqb-true, ltb-false}
+use Rattle.placing.specs.Placing.{all_placed, ready, passed, Reads, Depends, direct, further}
 
 -- a member of a set below k that a leads to
 pub record Lead (P : ℕ → Bool) (R : ℕ → ℕ → Type 0) (k a : ℕ) : Type 0 where

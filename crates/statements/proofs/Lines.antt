@@ -98,7 +98,7 @@ lines_split t s l k (suc m) = go (eqb (get_or l (suc k) 0) (get_or l k 0)) refl 
         ∷ lines_of (held t s l (suc k + alike l (get_or l k 0) (suc k) (suc m)) (suc m - alike l (get_or l k 0) (suc k) (suc m)))
     go true e ih =
         let r = alike l (get_or l k 0) (suc (suc k)) m in
-        ap (joined (word_at t s l k)) ih ∙ rw (eqb-true (get_or l (suc k) 0) (get_or l k 0) e, eq-eqb (get_or l k 0) (get_or l k 0) refl, shift r, less r)
+        ap (joined (word_at t s l k)) ih ∙ simp (eqb-true (get_or l (suc k) 0) (get_or l k 0) e, eq-eqb (get_or l k 0) (get_or l k 0) refl, shift r, less r)
     go false e ih =
         let other : eqb (get_or l k 0) (get_or l (suc k) 0) ≡ false = ne_eqb _ _ (λ p. eqb-false (get_or l (suc k) 0) (get_or l k 0) e (sym p)) in
         ap (joined (word_at t s l k)) ih ∙ rw (other, e, add-zero, sub-zero) (ap (λ (ls : List Line). line_of (get_or l k 0) (word_of (drop (get_or s k 0) t) ∷ []) ∷ ls) (sym ih))

@@ -19,13 +19,13 @@ read_names-requires c =
 pub returns-in-Fine : goal.returns-in-Fine
 returns-in-Fine c =
     let a = c.args in
-    let ls = lines_from a.text.now a.starts.now a.lines.now a.n 0 in let all = rw (in_a_row-refusal ls (length a.image.now))
-    (goes_on (count_fault ls) (names_refusal ls (length a.image.now)) (model_length ls) (image_over ls a.image.now) a.image.now _ _
-    (sym c.judge_counts.ensures ∙ c.in-Fine.is) (c.read_names.ensures.value, c.read_names.ensures.image_after)) in record { value = all.0; image_after = all.1 }
+    let ls = lines_from a.text.now a.starts.now a.lines.now a.n 0 in rw (in_a_row-refusal ls (length a.image.now))
+    (let all = goes_on (count_fault ls) (names_refusal ls (length a.image.now)) (model_length ls) (image_over ls a.image.now) a.image.now _ _
+    (sym c.judge_counts.ensures ∙ c.in-Fine.is) (c.read_names.ensures.value, c.read_names.ensures.image_after) in record { value = all.0; image_after = all.1 })
 
 pub returns-in-Refused : goal.returns-in-Refused
 returns-in-Refused c =
     let a = c.args in
-    let ls = lines_from a.text.now a.starts.now a.lines.now a.n 0 in let all = rw (in_a_row-refusal ls (length a.image.now))
-    (stops (count_fault ls) (names_refusal ls (length a.image.now)) (model_length ls) _ _ (image_over ls a.image.now) a.image.now
-    (sym c.judge_counts.ensures ∙ c.in-Refused.is)) in record { value = all.0; image_after = all.1 }
+    let ls = lines_from a.text.now a.starts.now a.lines.now a.n 0 in rw (in_a_row-refusal ls (length a.image.now))
+    (let all = stops (count_fault ls) (names_refusal ls (length a.image.now)) (model_length ls) _ _ (image_over ls a.image.now) a.image.now
+    (sym c.judge_counts.ensures ∙ c.in-Refused.is) in record { value = all.0; image_after = all.1 })

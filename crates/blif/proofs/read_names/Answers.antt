@@ -36,7 +36,7 @@ read_outputs-requires c =
     let at-collect2 = c.collect-many in
     let at-collect = c.collect-inputs in
     let h = at-heads2.ensures in
-    named c.requires.words c.requires.within.0 c.requires.within.1 at-collect.ensures at-collect2.ensures h.0 h.1.0 (omega (arith, h.0, h.1.1, c.requires.within.0.few_gates))
+    named c.requires.words c.requires.within.0 c.requires.within.1 at-collect.ensures at-collect2.ensures h.value h.heads (omega (arith, h.value, h.heads_len_unchanged, c.requires.within.0.few_gates))
 
 pub returns-in-Fine : goal.returns-in-Fine
 returns-in-Fine c =

@@ -1,4 +1,4 @@
-use Prim.Native.Nat.{◌+◌, ◌-◌, ◌*◌}
+use Prim.Native.Nat.{◌+◌, ◌*◌}
 use Rattle.placing.specs.Placing.{sources_of}
 use Rattle.loops.specs.Marks.{unseen}
 use Rattle.loops.proofs.Tracing.{Tracing}

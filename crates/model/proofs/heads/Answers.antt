@@ -1,5 +1,4 @@
 -- `model::heads` meets its contract. Assumes nothing.
-use Prim.Native.Nat.{◌-◌}
 use mathlib.Core.Path.{refl, ◌∙◌}
 use native.Mathlib.Omega.{arith}
 use Rattle.model.proofs.Runs.{shorter}

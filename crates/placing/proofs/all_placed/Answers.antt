@@ -1,7 +1,6 @@
 -- `placing::all_placed` meets its contract. Assumes nothing.
-use Prim.Native.Nat.{◌+◌, ◌-◌}
+use Prim.Native.Nat.{◌+◌}
 use mathlib.Core.Path.{refl, sym, ◌∙◌}
-use mathlib.Core.Bool.{true, false}
 use native.Mathlib.Omega.{arith}
 use native.Mathlib.Nat.{add-zero, sub-zero}
 use Rattle.placing.proofs.Search.{placed-more, placed-stop, placed_end}
@@ -24,13 +23,13 @@ pub returns-then-not-placed_source : goal.returns-then-not-placed_source
 returns-then-not-placed_source c =
     let l = c.loop-i in
     let a = c.args in
-    sym (sym l.invariant.1 ∙ placed-stop a.n a.place.now a.pins.now a.from a.many l.i (search rules) (sym c.Placed-source.ensures ∙ c.if-not-placed_source.true))
+    sym (sym l.invariant.1 ∙ placed-stop a.n a.place.now a.pins.now a.from a.many l.i (search rules) (sym c.placed_source.ensures ∙ c.if-not-placed_source.true))
 
 pub loop-i-preserved : goal.loop-i-preserved
 loop-i-preserved c =
     let l = c.loop-i in
     let a = c.args in
-    (omega arith, sym (placed-more a.n a.place.now a.pins.now a.from a.many l.i (search rules) (sym c.Placed-source.ensures ∙ c.if-not-placed_source.false)) ∙ l.invariant.1)
+    (omega arith, sym (placed-more a.n a.place.now a.pins.now a.from a.many l.i (search rules) (sym c.placed_source.ensures ∙ c.if-not-placed_source.false)) ∙ l.invariant.1)
 
 pub returns : goal.returns
 returns c =

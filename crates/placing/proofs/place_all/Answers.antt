@@ -1,6 +1,4 @@
 -- `placing::place_all` meets its contract. Assumes nothing.
-use Prim.Native.Nat.{◌-◌}
-use mathlib.Core.Bool.{true, false}
 use native.Mathlib.Omega.{arith}
 use lib.ListN.{length-set}
 use Rattle.placing.specs.Placing.{sources_of}

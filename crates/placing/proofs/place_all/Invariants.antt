@@ -1,4 +1,3 @@
-use Prim.Native.Nat.{◌-◌}
 use Rattle.placing.specs.Placing.{sources_of, left}
 use Rattle.placing.proofs.Going.{Going}
 use Rattle.placing.proofs.place_all.Given as goal

@@ -1,6 +1,4 @@
 -- `placing::placed_source` meets its contract. Assumes nothing.
-use Prim.Native.Nat.{◌-◌}
-use mathlib.Core.Bool.{true, false}
 use borrow.Author.Tests.{eq-eqb, ne_eqb, lt-ltb, le-ltb}
 use Rattle.placing.proofs.placed_source.Goals as goal
 

@@ -39,4 +39,4 @@ pub returns : goal.returns
 returns c =
     let at-line-rest = c.line_rest-count in
     let a = c.args in
-    let e = rw at-line-rest.ensures at c.resolve.ensures in record { by_index = λ ls. e.0 ls ∙ ap (unknown_fault (held a.text.now a.names.now ls 0 a.many)) (sym (sources-held a.text.now a.starts.now a.lines.now a.n a.head c.requires.head_lt_n.0)); found = e.1; counts_after = rw at-line-rest.ensures refl }
+    let e = rw at-line-rest.ensures at c.resolve.ensures in record { by_index = λ ls. e.by_index ls ∙ ap (unknown_fault (held a.text.now a.names.now ls 0 a.many)) (sym (sources-held a.text.now a.starts.now a.lines.now a.n a.head c.requires.head_lt_n.0)); found = e.found; counts_after = rw at-line-rest.ensures refl }

@@ -1,5 +1,5 @@
 -- `resolve::resolve_gates` meets its contract. Assumes nothing.
-use Prim.Native.Nat.{ℕ, ◌-◌}
+use Prim.Native.Nat.{ℕ}
 use mathlib.Core.Path.{◌≡◌, refl, ap, sym, ◌∙◌}
 use native.Mathlib.Omega.{arith}
 use lib.ListN.{length, get_or, length-set}
@@ -35,9 +35,9 @@ loop-j-preserved c =
       omega arith,
       turn a.text.now a.names.now a.many a.starts.now a.lines.now a.n a.heads.now l.pins l.counts l.j l.invariant.1
           (omega (arith, c.requires.gates_le_most_gates.0, at-loop-test.true)) (headed.inside l.j at-loop-test.true) (headed.fits l.j at-loop-test.true).1
-          _ _ (λ ls. sym told ∙ e.0 ls) (e.1.0 told) e.1.1,
-      (e.1.0 told).kept.long ∙ l.invariant.2,
-      ap length e.1.1 ∙ length-set l.counts l.j _ ∙ l.invariant.3,
+          _ _ (λ ls. sym told ∙ e.by_index ls) (e.found told) e.counts_after,
+      (e.found told).kept.long ∙ l.invariant.2,
+      ap length e.counts_after ∙ length-set l.counts l.j _ ∙ l.invariant.3,
     )
 
 pub returns-in-Refused : goal.returns-in-Refused

@@ -16,4 +16,4 @@ returns-in-End c =
     rw (c.in-End.is, length-bytes c.args.text.now c.args.starts.now (c.args.k + 1) c.args.rest) c.after_end.ensures
 
 pub returns-in-Other : goal.returns-in-Other
-returns-in-Other c = rw (c.in-Other.is, add-one) (rw add-one at c.after_Line.ensures)
+returns-in-Other c = rw (c.in-Other.is, add-one) (rw add-one at c.after_line.ensures)

@@ -3,7 +3,7 @@ use Rattle.statements.proofs.Lines.{length-bytes}
 use Rattle.statements.proofs.after_heading.Goals as goal
 
 pub returns-in-Inputs : goal.returns-in-Inputs
-returns-in-Inputs c = rw c.in-Inputs.is c.after_List.ensures
+returns-in-Inputs c = rw c.in-Inputs.is c.after_list.ensures
 
 pub returns-in-Outputs : goal.returns-in-Outputs
 returns-in-Outputs c = rw c.in-Outputs.is c.after_list-in-Outputs.ensures

@@ -89,9 +89,8 @@ pin-fourth-requires c =
 pub write_record-requires : goal.write_record-requires
 write_record-requires c =
     let at_entry_lem = c.entry-count in
-    let p = (c.requires.placeable, c.requires.gate_in_bounds, c.requires.record_bytes_in_bounds) in
-    let few : at_entry_lem.result ≤ most_pins = rw at_entry_lem.ensures (p.0.0.counted _) in record {
-      record_bytes_in_bounds = p.1.1;
+    let few : at_entry_lem.result ≤ most_pins = rw at_entry_lem.ensures (c.requires.placeable.0.counted _) in record {
+      record_bytes_in_bounds = c.requires.record_bytes_in_bounds;
       count_bound = (
         omega arith,
         c.table-table.ensures.upper_bound,

@@ -9,7 +9,7 @@ use Rattle.writing.proofs.write_gates.Given as goal
 abbrev pub invariant-loop-q : goal.invariant-loop-q
 invariant-loop-q l =
     (l.q ≤ l.gates) × (length l.image ≡ length l.initial.image)
-    × (l.image ≡ sets l.initial.image 0 (joined (λ (l.q : ℕ). record_in l.text l.starts l.lines l.n l.heads l.pins l.counts l.inputs l.place (get_or l.order l.q 0)) l.q))
+    × (l.image ≡ sets l.initial.image 0 (joined (λ (k : ℕ). record_in l.text l.starts l.lines l.n l.heads l.pins l.counts l.inputs l.place (get_or l.order k 0)) l.q))
 
 abbrev pub decreases-loop-q : goal.decreases-loop-q
 decreases-loop-q l =

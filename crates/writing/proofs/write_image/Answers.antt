@@ -18,15 +18,15 @@ write_gates-requires c =
 pub write_outputs-requires : goal.write_outputs-requires
 write_outputs-requires c =
     let a = c.args in
-    let p = (c.requires.placeable, c.requires.ordered, c.requires.outputs_in_bounds, c.requires.outputs_in_bounds_2) in
-    let o = p.1.1.0 in
+    let p = c.requires in
+    let o = p.outputs_in_bounds in
     let kept = ap length c.write_gates.ensures
     ∙ length-sets a.image.now 0 (joined (λ (q : ℕ). record_in a.text.now a.starts.now a.lines.now a.n a.heads.now a.pins.now
-    a.counts.now a.inputs a.place.now (get_or a.order.now q 0)) a.gates) in record { sourced = p.0.pinned.sourced; outputs_in_bounds = (o.0, o.1, p.1.0.few, o.2); outputs_in_bounds_2 = omega (arith, kept, p.1.1.1) }
+    a.counts.now a.inputs a.place.now (get_or a.order.now q 0)) a.gates) in record { sourced = p.placeable.pinned.sourced; outputs_in_bounds = (o.0, o.1, p.ordered.few, o.2); outputs_in_bounds_2 = omega (arith, kept, p.outputs_in_bounds_2) }
 
 pub write_trailer-requires : goal.write_trailer-requires
 write_trailer-requires c =
-    let p = (c.requires.placeable, c.requires.ordered, c.requires.outputs_in_bounds, c.requires.outputs_in_bounds_2) in record { trailer_bytes_in_bounds = search rules; inputs_bound = (omega (arith, p.0.pinned.sourced.few), omega (arith, p.1.0.few), omega (arith, p.1.1.0.2)) }
+    let p = c.requires in record { trailer_bytes_in_bounds = search rules; inputs_bound = (omega (arith, p.placeable.pinned.sourced.few), omega (arith, p.ordered.few), omega (arith, p.outputs_in_bounds.2)) }
 
 pub returns : goal.returns
 unfolding held_net
