@@ -12,14 +12,14 @@ use Rattle.comparison.proofs.error_of_image.Goals as goal
 pub error_halves-requires : goal.error_halves-requires
 error_halves-requires c =
     let bs = c.args.image.now in
-    let t = c.«open» in
+    let t = c.open in
     let fine = (opened-done bs _ _ t.ensures.value c.in-Done.is).0 in
     rw (t.ensures.area_after ∙ opened-left bs fine) ((opened-workable bs fine).net, opened-trailer bs fine, opened-gates bs)
 
 pub returns-in-Done : goal.returns-in-Done
 returns-in-Done c =
     let bs = c.args.image.now in
-    let t = c.«open» in
+    let t = c.open in
     let told = opened-done bs _ _ t.ensures.value c.in-Done.is in
     let halves = c.error_halves.ensures.value
     ∙ ap (λ (ws : List ℕ). error_halves (net_of ws (image_kinds bs) [])) (t.ensures.area_after ∙ opened-left bs told.0)

@@ -8,7 +8,7 @@ use Rattle.comparison.proofs.read_module.Goals as goal
 pub opened_module-requires : goal.opened_module-requires
 opened_module-requires c =
     let bs = c.args.image.now in
-    let t = c.«open» in
+    let t = c.open in
     let told = opened-done bs _ _ t.ensures.value c.in-Done.is in record { area_value = (t.ensures.area_after ∙ opened-left bs told.0, told.0, told.1); most_patterns_in_bounds = c.requires }
 
 pub shape_of-figures : goal.shape_of-figures
