@@ -10,11 +10,11 @@ returns-in-Done c =
     let a = c.args in
     let t = c.open-answer in
     let judged = judgement a.area.now (open_image a.image.now) in
-    let e = (open_told judged (open_live a.image.now)).0 _ (sym t.ensures.0 ∙ c.in-Done.is) in record { value = rw e.0 refl; live_after = rw e.0 e.1; area_after = t.ensures.1 }
+    let e = (open_told judged (open_live a.image.now)).0 _ (sym t.ensures.value ∙ c.in-Done.is) in record { value = rw e.0 refl; live_after = rw e.0 e.1; area_after = t.ensures.area_after }
 
 pub returns-in-Refused : goal.returns-in-Refused
 returns-in-Refused c =
     let a = c.args in
     let t = c.open-answer in
     let judged = judgement a.area.now (open_image a.image.now) in
-    let e = (open_told judged (open_live a.image.now)).1 _ _ (sym t.ensures.0 ∙ c.in-Refused.is) in record { value = rw e c.refused.ensures; live_after = rw e refl; area_after = t.ensures.1 }
+    let e = (open_told judged (open_live a.image.now)).1 _ _ (sym t.ensures.value ∙ c.in-Refused.is) in record { value = rw e c.refused.ensures; live_after = rw e refl; area_after = t.ensures.area_after }
