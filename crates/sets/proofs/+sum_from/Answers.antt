@@ -2,7 +2,7 @@
 -- measure is the gates that are left. Assumes nothing.
 use Prim.Native.Nat.{ℕ, ◌+◌, ◌-◌, ◌*◌, ◌/◌, ◌%◌, ◌^◌, ◌≤◌, ◌<◌}
 use mathlib.Core.List.{List}
-use mathlib.Core.Path.{◌≡◌, sym, ap, ap₂, subst, ◌∙◌}
+use mathlib.Core.Path.{◌≡◌, sym, ap, ap₂, ◌∙◌}
 use native.Mathlib.Omega.{arith}
 use lib.Arith.{lt_of_le-ne}
 use lib.ListN.{length, set}
@@ -264,9 +264,9 @@ overflow_add-result t c =
     let right = rw c.store_figure.ensures at c.sum_from-right.ensures in
     let wrong = rw (c.store_figure-2.ensures, shifted t e) at c.sum_from.ensures in
     let all : c.sum_from-right.result + c.sum_from.result ≡ sum_begun c.args.area.now c.args.begun c.args.met =
-        added _ _ _ _ _ _ _ _ (walk-here t e) (within-net t e) (at-shared t e) c.figure-own.result c.output_step-as_right.result c.figure-own.ensures
-        c.output_step-as_right.ensures c.sum_from-right.new.area right.same_before c.output_step-as_wrong.result c.output_step-as_wrong.ensures _ _ right.value
-        wrong.value
+    added _ _ _ _ _ _ _ _ (walk-here t e) (within-net t e) (at-shared t e) c.figure-own.result c.output_step-as_right.result c.figure-own.ensures
+    c.output_step-as_right.ensures c.sum_from-right.new.area right.same_before c.output_step-as_wrong.result c.output_step-as_wrong.ensures _ _ right.value
+    wrong.value
     in
     omega (arith, all, both.sum-most c.args.area.now c.args.begun c.args.met c.requires.workable.0 c.requires.workable.2)
 
