@@ -9,16 +9,16 @@ use native.Mathlib.Omega.{arith}
 use lib.ListN.{length, get_or, set, length-set}
 use lib.Seq.{get_or-set_same, get_or-set_other}
 use Rattle.netlist.specs.Live.{readers}
-use Rattle.area.specs.Layout.{most_sources, inputs, gates, pin_count, figure_index, figure, used_pins, source_word}
+use Rattle.area.specs.Layout.{most_sources, inputs, gates, pin_count, used_pins, source_word}
 use Rattle.area.specs.Rules.{Workable}
 use Rattle.area.specs.Net.{net_of}
 use Rattle.area.proofs.Words.{gate-inside, used-count, used-pin, used-below, few-sources}
 use Rattle.plan.specs.Plan.{IsLive}
 use Rattle.plan.proofs.Laws.{live-pin}
 use Rattle.work.specs.Work.{work_gate}
-use Rattle.work.proofs.Frame.{work-gate-kept, work-gate-same}
+use Rattle.work.proofs.Frame.{work-gate-same}
 use Rattle.fresh.proofs.Sources.{source-gate, source-cases}
-use Rattle.sets.specs.Sets.{shared_of, shared_units, own_failure, seen_failure}
+use Rattle.sets.specs.Sets.{seen_failure}
 use Rattle.sets.specs.Branches.{right_bit, SeenAs, Marks, SameBefore, ReadsUnmarked, Settled}
 use Rattle.sets.proofs.Same as same
 use Rattle.sets.proofs.Worked.{worked-none, worked-gate, input-seen, own-by-pins, seen-own}

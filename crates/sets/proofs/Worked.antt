@@ -8,7 +8,6 @@ use native.Mathlib.Decide.{dec_lt}
 use native.Mathlib.Omega.{arith}
 use lib.Dec.{eqb}
 use lib.ListN.{length, get_or}
-use lib.Pow.{low}
 use Rattle.rounding.specs.Rounding.{units_in_one}
 use Rattle.figure.specs.Figure.{bit_of, is_odd, answer, gate_failure, right_of, failure_of, gate_word}
 use Rattle.netlist.specs.Netlist.{Gate, pin_values, right_values}

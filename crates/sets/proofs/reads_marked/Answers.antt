@@ -1,12 +1,11 @@
 -- `sets::reads_marked` meets its contract: the pins passed read no marked gate. Assumes nothing.
-use Prim.Native.Nat.{ℕ, ◌-◌, ◌≤◌, ◌<◌}
+use Prim.Native.Nat.{ℕ, ◌<◌}
 use mathlib.Core.Bool.{true≢false}
-use mathlib.Core.List.{List}
-use mathlib.Core.Path.{◌≡◌, sym, ap, ◌∙◌}
+use mathlib.Core.Path.{sym, ap, ◌∙◌}
 use native.Mathlib.Omega.{arith}
 use borrow.Author.Count.{below_none, below_more}
 use lib.ListN.{get_or}
-use Rattle.area.specs.Layout.{inputs, pin_count, pin}
+use Rattle.area.specs.Layout.{pin_count}
 use Rattle.area.proofs.Words.{gate-inside, pin-below, few-sources}
 use Rattle.sets.proofs.reads_marked.Goals.{In-loop-i}
 use Rattle.sets.proofs.reads_marked.Invariants.{Clear}

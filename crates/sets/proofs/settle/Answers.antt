@@ -1,5 +1,5 @@
 -- `sets::settle` meets its contract: gate after gate, or none. Assumes nothing.
-use Prim.Native.Nat.{◌-◌, ◌<◌}
+use Prim.Native.Nat.{◌<◌}
 use native.Mathlib.Omega.{arith}
 use Rattle.area.specs.Layout.{gates}
 use Rattle.sets.specs.Branches.{Settled}

@@ -67,7 +67,7 @@ module _ (c : After-work_gate) where
       let marks = c.args.marks.now in
       subst (λ (us : List ℕ). Settled (ws c.before.before.before.before.before.before.before) us (set marks (c.inputs.result + c.args.gate) 0)) (sym c.work_gate.ensures)
       (subst (λ (x : ℕ). Settled (ws c.before.before.before.before.before.before.before) (work_gate (ws c.before.before.before.before.before.before.before) c.args.gate) (set marks x 0)) (sym (place c.before.before.before.before.before.before.before))
-      (settled-gate (ws c.before.before.before.before.before.before.before) marks c.args.gate c.pre.0 c.pre.1 c.pre.2 c.pre.3 one
+      (settled-gate (ws c.before.before.before.before.before.before.before) marks c.args.gate c.requires.0 c.requires.1 c.requires.2 c.requires.3 one
       (c.reads_marked.ensures c.if-reads_marked.false)))
 
 pub shape_of-area : goal.shape_of-area

@@ -35,7 +35,7 @@ module _ (c : After-settle) where
   abbrev vs : List ℕ
   vs = c.settle.new.area
 
-  settled : Settled c.args.area.now vs c.settle.new.marks.0
+  settled : Settled c.args.area.now vs c.settle.new.marks
   settled = c.settle.ensures
 
 pub gates-gates-requires : goal.gates-gates-requires
@@ -57,10 +57,10 @@ sum_from-sum-requires c =
 module _ (c : After-sum_from-sum) where
   cut : at_most units_in_one c.sum_from-sum.result ≡ shared_units c.args.area.now
   cut =
-      ap (at_most units_in_one) (c.sum_from-sum.ensures.value ∙ sum-all (vs c.before.before.before.before.before.before.before.before.before)) ∙ all-added (vs c.before.before.before.before.before.before.before.before.before) ∙ (settled c.before.before.before.before.before.before.before.before.before).same_answer
+      ap (at_most units_in_one) (c.sum_from-sum.ensures.value ∙ sum-all c.settle.new.area) ∙ all-added c.settle.new.area ∙ c.settle.ensures.same_answer
 
   size-kept : length c.sum_from-sum.new.area ≡ length c.args.area.now
-  size-kept = c.sum_from-sum.ensures.same_before.size ∙ (settled c.before.before.before.before.before.before.before.before.before).size
+  size-kept = c.sum_from-sum.ensures.same_before.size ∙ c.settle.ensures.size
 
 pub shape_of-area-then-sum-gt-UNITS_IN_ONE : goal.shape_of-area-then-sum-gt-UNITS_IN_ONE
 shape_of-area-then-sum-gt-UNITS_IN_ONE c = size-kept (goal.at.shape_of-area-then-sum-gt-UNITS_IN_ONE c).After-sum_from-sum

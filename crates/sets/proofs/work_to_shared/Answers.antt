@@ -1,5 +1,5 @@
 -- `sets::work_to_shared` meets its contract: the marked gates before the one reached are worked out, and none of them is shared. Assumes nothing.
-use Prim.Native.Nat.{ℕ, ◌+◌, ◌-◌, ◌≤◌, ◌<◌}
+use Prim.Native.Nat.{ℕ, ◌+◌, ◌≤◌, ◌<◌}
 use mathlib.Core.List.{List}
 use mathlib.Core.Path.{◌≡◌, sym, ap, subst}
 use native.Mathlib.Omega.{arith}
@@ -81,31 +81,34 @@ bounds-marks-inputs c = omega (arith, fits (goal.at.bounds-marks-inputs c).In-lo
 
 -- after it is worked out
 module _ (c : After-work_gate) where
+  abbrev at_turn : In-loop-gate
+  at_turn = record { before = c.before.before.before; type_inv = record { next = c.way_told-1.given } }
+
   abbrev held : List ℕ
   held = c.loop-gate.area
 
   abbrev left : List ℕ
   left = c.work_gate.new.area
 
-  before : WorkedTo (ws (record { before = c.before.before.before; type_inv = record { next = c.way_told-1.given } })) c.args.marks.now held c.args.from (g (record { before = c.before.before.before; type_inv = record { next = c.way_told-1.given } }))
+  before : WorkedTo (ws at_turn) c.args.marks.now held c.args.from (g at_turn)
   before = c.loop-gate.invariant.3
 
-  is : left ≡ work_gate held (g (record { before = c.before.before.before; type_inv = record { next = c.way_told-1.given } }))
+  is : left ≡ work_gate held (g at_turn)
   is = c.work_gate.ensures
 
-  stepped : WorkedTo (ws (record { before = c.before.before.before; type_inv = record { next = c.way_told-1.given } })) c.args.marks.now left c.args.from (g (record { before = c.before.before.before; type_inv = record { next = c.way_told-1.given } }))
+  stepped : WorkedTo (ws at_turn) c.args.marks.now left c.args.from (g at_turn)
   stepped =
-      subst (λ (vs : List ℕ). WorkedTo (ws (record { before = c.before.before.before; type_inv = record { next = c.way_told-1.given } })) c.args.marks.now vs c.args.from (g (record { before = c.before.before.before; type_inv = record { next = c.way_told-1.given } }))) (sym is)
-      (worked-gate (ws (record { before = c.before.before.before; type_inv = record { next = c.way_told-1.given } })) c.args.marks.now held c.args.from (g (record { before = c.before.before.before; type_inv = record { next = c.way_told-1.given } })) c.loop-gate.invariant.0 (inside (record { before = c.before.before.before; type_inv = record { next = c.way_told-1.given } })) (mark (record { before = c.before.before.before; type_inv = record { next = c.way_told-1.given } })) before)
+      subst (λ (vs : List ℕ). WorkedTo (ws at_turn) c.args.marks.now vs c.args.from (g at_turn)) (sym is)
+      (worked-gate (ws at_turn) c.args.marks.now held c.args.from (g at_turn) c.loop-gate.invariant.0 (inside at_turn) (mark at_turn) before)
 
-  passed : get_or c.args.marks.now (inputs (ws (record { before = c.before.before.before; type_inv = record { next = c.way_told-1.given } })) + g (record { before = c.before.before.before; type_inv = record { next = c.way_told-1.given } })) 0 ≤ 1 → WorkedTo (ws (record { before = c.before.before.before; type_inv = record { next = c.way_told-1.given } })) c.args.marks.now left c.args.from (g (record { before = c.before.before.before; type_inv = record { next = c.way_told-1.given } }) + 1)
+  passed : get_or c.args.marks.now (inputs (ws at_turn) + g at_turn) 0 ≤ 1 → WorkedTo (ws at_turn) c.args.marks.now left c.args.from (g at_turn + 1)
   passed one =
-      subst (λ (vs : List ℕ). WorkedTo (ws (record { before = c.before.before.before; type_inv = record { next = c.way_told-1.given } })) c.args.marks.now vs c.args.from (g (record { before = c.before.before.before; type_inv = record { next = c.way_told-1.given } }) + 1)) (sym is)
-      (worked-single (ws (record { before = c.before.before.before; type_inv = record { next = c.way_told-1.given } })) c.args.marks.now held c.args.from (g (record { before = c.before.before.before; type_inv = record { next = c.way_told-1.given } })) c.loop-gate.invariant.0 (inside (record { before = c.before.before.before; type_inv = record { next = c.way_told-1.given } })) (mark (record { before = c.before.before.before; type_inv = record { next = c.way_told-1.given } })) before one)
+      subst (λ (vs : List ℕ). WorkedTo (ws at_turn) c.args.marks.now vs c.args.from (g at_turn + 1)) (sym is)
+      (worked-single (ws at_turn) c.args.marks.now held c.args.from (g at_turn) c.loop-gate.invariant.0 (inside at_turn) (mark at_turn) before one)
 
   -- the lowest marked gate after it
-  found : MarkedFrom c.args.marks.now (inputs (ws (record { before = c.before.before.before; type_inv = record { next = c.way_told-1.given } }))) (gates (ws (record { before = c.before.before.before; type_inv = record { next = c.way_told-1.given } }))) (g (record { before = c.before.before.before; type_inv = record { next = c.way_told-1.given } }) + 1) (get_or c.args.next.now (g (record { before = c.before.before.before; type_inv = record { next = c.way_told-1.given } }) + 1) 0)
-  found = c.pre.0.1.each (g (record { before = c.before.before.before; type_inv = record { next = c.way_told-1.given } }) + 1) (omega arith) (omega (arith, inside (record { before = c.before.before.before; type_inv = record { next = c.way_told-1.given } })))
+  found : MarkedFrom c.args.marks.now (inputs (ws at_turn)) (gates (ws at_turn)) (g at_turn + 1) (get_or c.args.next.now (g at_turn + 1) 0)
+  found = c.requires.workable.1.each (g at_turn + 1) (omega arith) (omega (arith, inside at_turn))
 
 pub shape_of-area-then-marks-inputs-gt1 : goal.shape_of-area-then-marks-inputs-gt1
 shape_of-area-then-marks-inputs-gt1 c = (stepped (goal.at.shape_of-area-then-marks-inputs-gt1 c).After-work_gate).same.size
@@ -114,7 +117,7 @@ pub returns-then-marks-inputs-gt1 : goal.returns-then-marks-inputs-gt1
 returns-then-marks-inputs-gt1 c =
     let turn = (goal.at.returns-then-marks-inputs-gt1 c).In-loop-gate in
     let there = (goal.at.returns-then-marks-inputs-gt1 c).After-work_gate in
-    let two = rw (place turn) c c.if-marks-inputs-gt1.true in record {
+    let two = rw (place turn) at c.if-marks-inputs-gt1.true in record {
       worked_to = (stepped there, c.loop-gate.invariant.0, omega (arith, inside turn));
       shared_at = λ less.
           record {

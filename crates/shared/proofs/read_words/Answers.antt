@@ -9,7 +9,6 @@ use lib.ListN.{length, get_or}
 use Rattle.refusal.specs.declared.Judgement.TheVariants.{Fine, Refused}
 use Rattle.refusal.specs.Judgement.{refuse_unless}
 use Rattle.suppose.specs.Suppose.{shared_from}
-use Rattle.area.specs.Layout.{inputs, gates}
 use Rattle.sets.specs.Sets.{most_shared, units_net, shared_of}
 use Rattle.sets.proofs.Laws.{shared-counted}
 use Rattle.shared.specs.Shared.{many_shared}

@@ -29,7 +29,7 @@ module _ (c : In-Fine) where
   abbrev rest : List ℕ
   rest = drop (needed (image_gates bs) (image_outputs bs)) (replicate most_words 0)
 
-  held : c.load.new.1.0 ≡ image_words bs ++ rest
+  held : c.load.new.words ≡ image_words bs ++ rest
   held = c.load.ensures.words_after fine
 
 pub low_bits-low-requires : goal.low_bits-low-requires
@@ -40,12 +40,15 @@ low_bits-low-requires c =
 
 -- and turned to the pattern
 module _ (c : After-low_bits-low) where
-  low-is : c.low_bits-low.result ≡ c.args.pattern % 2 ^ inputs (image_words (bs (record { before = c.before.before.before.before; type_inv = record { image = c.shared_slice_known-1.given } })) ++ rest (record { before = c.before.before.before.before; type_inv = record { image = c.shared_slice_known-1.given } }))
-  low-is = c.low_bits-low.ensures ∙ ap (λ (n : ℕ). c.args.pattern % 2 ^ n) (c.inputs.ensures ∙ ap inputs (held (record { before = c.before.before.before.before; type_inv = record { image = c.shared_slice_known-1.given } })))
+  abbrev at : In-Fine
+  at = record { before = c.before.before.before.before; type_inv = record { image = c.shared_slice_known-1.given } }
 
-  words_are : set c.load.last.1.0 pattern_index c.low_bits-low.result
-      ≡ set (image_words (bs (record { before = c.before.before.before.before; type_inv = record { image = c.shared_slice_known-1.given } })) ++ rest (record { before = c.before.before.before.before; type_inv = record { image = c.shared_slice_known-1.given } })) pattern_index (c.args.pattern % 2 ^ inputs (image_words (bs (record { before = c.before.before.before.before; type_inv = record { image = c.shared_slice_known-1.given } })) ++ rest (record { before = c.before.before.before.before; type_inv = record { image = c.shared_slice_known-1.given } })))
-  words_are = ap₂ (λ (ws : List ℕ) (q : ℕ). set ws pattern_index q) (held (record { before = c.before.before.before.before; type_inv = record { image = c.shared_slice_known-1.given } })) low-is
+  low-is : c.low_bits-low.result ≡ c.args.pattern % 2 ^ inputs (image_words (bs at) ++ rest at)
+  low-is = c.low_bits-low.ensures ∙ ap (λ (n : ℕ). c.args.pattern % 2 ^ n) (c.inputs.ensures ∙ ap inputs (held at))
+
+  words_are : set c.load.new.words pattern_index c.low_bits-low.result
+      ≡ set (image_words (bs at) ++ rest at) pattern_index (c.args.pattern % 2 ^ inputs (image_words (bs at) ++ rest at))
+  words_are = ap₂ (λ (ws : List ℕ) (q : ℕ). set ws pattern_index q) (held at) low-is
 
 pub read_words-requires : goal.read_words-requires
 read_words-requires c =
