@@ -81,8 +81,17 @@ bounds-marks-inputs c = omega (arith, fits (goal.at.bounds-marks-inputs c).In-lo
 
 -- after it is worked out
 module _ (c : After-work_gate) where
-  abbrev at_turn : In-loop-gate
-  at_turn = record { before = c.before.before.before; type_inv = record { next = c.way_told-1.given } }
+  abbrev ws' : List ℕ
+  ws' = c.args.area.now
+
+  abbrev g' : ℕ
+  g' = c.loop-gate.gate
+
+  inside' : g' < gates ws'
+  inside' = omega (arith, c.gates-count.ensures)
+
+  mark' : 0 < get_or c.args.marks.now (inputs ws' + g') 0
+  mark' = c.loop-gate.invariant.2 inside'
 
   abbrev held : List ℕ
   held = c.loop-gate.area
@@ -90,25 +99,25 @@ module _ (c : After-work_gate) where
   abbrev left : List ℕ
   left = c.work_gate.new.area
 
-  before : WorkedTo (ws at_turn) c.args.marks.now held c.args.from (g at_turn)
+  before : WorkedTo ws' c.args.marks.now held c.args.from g'
   before = c.loop-gate.invariant.3
 
-  is : left ≡ work_gate held (g at_turn)
+  is : left ≡ work_gate held g'
   is = c.work_gate.ensures
 
-  stepped : WorkedTo (ws at_turn) c.args.marks.now left c.args.from (g at_turn)
+  stepped : WorkedTo ws' c.args.marks.now left c.args.from g'
   stepped =
-      subst (λ (vs : List ℕ). WorkedTo (ws at_turn) c.args.marks.now vs c.args.from (g at_turn)) (sym is)
-      (worked-gate (ws at_turn) c.args.marks.now held c.args.from (g at_turn) c.loop-gate.invariant.0 (inside at_turn) (mark at_turn) before)
+      subst (λ (vs : List ℕ). WorkedTo ws' c.args.marks.now vs c.args.from g') (sym is)
+      (worked-gate ws' c.args.marks.now held c.args.from g' c.loop-gate.invariant.0 inside' mark' before)
 
-  passed : get_or c.args.marks.now (inputs (ws at_turn) + g at_turn) 0 ≤ 1 → WorkedTo (ws at_turn) c.args.marks.now left c.args.from (g at_turn + 1)
+  passed : get_or c.args.marks.now (inputs ws' + g') 0 ≤ 1 → WorkedTo ws' c.args.marks.now left c.args.from (g' + 1)
   passed one =
-      subst (λ (vs : List ℕ). WorkedTo (ws at_turn) c.args.marks.now vs c.args.from (g at_turn + 1)) (sym is)
-      (worked-single (ws at_turn) c.args.marks.now held c.args.from (g at_turn) c.loop-gate.invariant.0 (inside at_turn) (mark at_turn) before one)
+      subst (λ (vs : List ℕ). WorkedTo ws' c.args.marks.now vs c.args.from (g' + 1)) (sym is)
+      (worked-single ws' c.args.marks.now held c.args.from g' c.loop-gate.invariant.0 inside' mark' before one)
 
   -- the lowest marked gate after it
-  found : MarkedFrom c.args.marks.now (inputs (ws at_turn)) (gates (ws at_turn)) (g at_turn + 1) (get_or c.args.next.now (g at_turn + 1) 0)
-  found = c.requires.workable.1.each (g at_turn + 1) (omega arith) (omega (arith, inside at_turn))
+  found : MarkedFrom c.args.marks.now (inputs ws') (gates ws') (g' + 1) (get_or c.args.next.now (g' + 1) 0)
+  found = c.requires.workable.1.each (g' + 1) (omega arith) (omega (arith, inside'))
 
 pub shape_of-area-then-marks-inputs-gt1 : goal.shape_of-area-then-marks-inputs-gt1
 shape_of-area-then-marks-inputs-gt1 c = (stepped (goal.at.shape_of-area-then-marks-inputs-gt1 c).After-work_gate).same.size

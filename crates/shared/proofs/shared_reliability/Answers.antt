@@ -14,7 +14,7 @@ use Rattle.image.proofs.Sound.{loaded-workable}
 use Rattle.sets.specs.Sets.{units_net, shared_units}
 use Rattle.shared.specs.Shared.{many_shared, shared_read}
 use Rattle.shared.proofs.Laws.{turned-workable, answer-is, judged-first}
-use Rattle.shared.proofs.shared_reliability.Goals.{After-low_bits-low, In-Fine}
+use Rattle.shared.proofs.shared_reliability.Goals.{In-Fine}
 use Rattle.shared.proofs.shared_reliability.Goals as goal
 
 -- an image that is loaded
@@ -39,27 +39,21 @@ low_bits-low-requires c =
     omega (arith, c.inputs.ensures ∙ ap inputs (held there), few)
 
 -- and turned to the pattern
-module _ (c : After-low_bits-low) where
-  abbrev at : In-Fine
-  at = record { before = c.before.before.before.before; type_inv = record { image = c.shared_slice_known-1.given } }
-
-  low-is : c.low_bits-low.result ≡ c.args.pattern % 2 ^ inputs (image_words (bs at) ++ rest at)
-  low-is = c.low_bits-low.ensures ∙ ap (λ (n : ℕ). c.args.pattern % 2 ^ n) (c.inputs.ensures ∙ ap inputs (held at))
-
-  words_are : set c.load.new.words pattern_index c.low_bits-low.result
-      ≡ set (image_words (bs at) ++ rest at) pattern_index (c.args.pattern % 2 ^ inputs (image_words (bs at) ++ rest at))
-  words_are = ap₂ (λ (ws : List ℕ) (q : ℕ). set ws pattern_index q) (held at) low-is
+words_are : (image past ws : List ℕ) (pattern n low : ℕ) → ws ≡ image_words image ++ past → n ≡ inputs ws → low ≡ pattern % 2 ^ n
+    → set ws pattern_index low ≡ set (image_words image ++ past) pattern_index (pattern % 2 ^ inputs (image_words image ++ past))
+words_are image past ws pattern n low held-as inputs-are low-is =
+    ap₂ (λ (vs : List ℕ) (q : ℕ). set vs pattern_index q) held-as (low-is ∙ ap (λ (k : ℕ). pattern % 2 ^ k) (inputs-are ∙ ap inputs held-as))
 
 pub read_words-requires : goal.read_words-requires
 read_words-requires c =
     let there = (goal.at.read_words-requires c).In-Fine in
-    subst Workable (sym (words_are (goal.at.read_words-requires c).After-low_bits-low)) (turned-workable (bs there) (rest there) (fine there) c.args.pattern)
+    subst Workable (sym (words_are (bs there) (rest there) c.load.new.words c.args.pattern c.inputs.result c.low_bits-low.result (held there) c.inputs.ensures c.low_bits-low.ensures)) (turned-workable (bs there) (rest there) (fine there) c.args.pattern)
 
 pub returns-in-Fine : goal.returns-in-Fine
 returns-in-Fine c =
     let there = (goal.at.returns-in-Fine c).In-Fine in
     c.read_words.ensures
-    ∙ ap (λ (ws : List ℕ). shared_read (many_shared (units_net ws)) (shared_units ws)) (words_are (goal.at.returns-in-Fine c).After-low_bits-low)
+    ∙ ap (λ (ws : List ℕ). shared_read (many_shared (units_net ws)) (shared_units ws)) (words_are (bs there) (rest there) c.load.new.words c.args.pattern c.inputs.result c.low_bits-low.result (held there) c.inputs.ensures c.low_bits-low.ensures)
     ∙ answer-is (bs there) (rest there) (fine there) c.args.pattern
 
 pub returns-in-Refused : goal.returns-in-Refused
