@@ -18,7 +18,7 @@ use Rattle.netlist.specs.Live.{is_live, if_live, with_gate}
 use Rattle.netlist.specs.Seen.{sensitive, pins_where, sensitive_pins, mask_reads_from, mask_seen}
 use Rattle.netlist.proofs.Live.{count-with}
 use Rattle.netlist.proofs.Masks.{mask-from, mask-settled}
-use Rattle.area.specs.Layout.{most_sources, inputs, gates, outputs, table, pin_count, pin, used_pins, output, output_words}
+use Rattle.area.specs.Layout.{most_sources, inputs, gates, table, pin_count, pin, used_pins, output_words}
 use Rattle.area.specs.Rules.{NetSound}
 use Rattle.area.specs.Net.{net_of}
 use Rattle.area.proofs.Net.{gate-at, gate_count, sound-pins}

@@ -5,7 +5,6 @@ use mathlib.Core.Path.{◌≡◌, ap}
 use native.Mathlib.Nat.{mul-le-mul_left, mul-le-mul_right, le_of_mul-le-mul_right, div-add-mod', mod-lt}
 use native.Mathlib.Decide.{dec_le}
 use native.Mathlib.Omega.{arith}
-use Rattle.rounding.specs.Rounding.{Near}
 use Rattle.decimals.specs.Decimals.{shown_parts, gap, round_up, shown_error}
 use Rattle.decimals.specs.Statements.{ShownHolds, ShownLeast}
 

@@ -1,5 +1,5 @@
 -- What is promised of a figure that is shown with its error, for every figure and every error. proofs/Shown.antt proves it.
-use Rattle.std.specs.Prelude.{ℕ, ◌+◌, ◌*◌, ◌≤◌, ◌<◌}
+use Rattle.std.specs.Prelude.{ℕ, ◌*◌, ◌≤◌, ◌<◌}
 use Rattle.rounding.specs.Rounding.{Near}
 use Rattle.decimals.specs.Decimals.{shown_parts, shown_error}
 

@@ -5,7 +5,7 @@ use mathlib.Core.Path.{◌≡◌, refl, sym, ap, ap₂, ◌∙◌, fun_ext}
 use mathlib.Core.List.{List, [], ◌∷◌, map}
 use native.Mathlib.Omega.{arith}
 use lib.Dec.{eqb}
-use lib.ListN.{length, get_or, length-map}
+use lib.ListN.{length, length-map}
 use Rattle.rounding.proofs.Laws.{blend-at-most}
 use Rattle.figure.specs.Figure.{bit_of, index_of, invert_if, inverted, interleave, error_patterns, answer, difference, start_values}
 use Rattle.figure.specs.Figure.{fold_step, fold_pins, gate_step, gate_failure, output_step, right_of, failure_of, gate_word}

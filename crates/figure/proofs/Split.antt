@@ -8,7 +8,7 @@ use lib.ListN.{length, get_or, drop, set, drop_of_length-le}
 use lib.Seq.{drop-cons, get_or-set_same, get_or-set_other}
 use Rattle.rounding.specs.Rounding.{units_in_one, blend}
 use Rattle.rounding.proofs.Laws.{blend-none}
-use Rattle.figure.specs.Figure.{failure_of, fold_step, fold_pins, gate_step, gate_word}
+use Rattle.figure.specs.Figure.{failure_of, fold_step, fold_pins, gate_step}
 use Rattle.figure.specs.Steps.{Pin, pins_from, numbered, first_pins, room, spread_step, spread_pins, differs, last_value}
 use Rattle.figure.specs.Steps.{right_index, right_bit, pins_word, Split}
 use Rattle.figure.proofs.Under.{added}

@@ -15,7 +15,7 @@ use Rattle.lists.specs.Lists.{count, sum_below, Below}
 use Rattle.lists.proofs.Counts.{count-append, count-below, below-count}
 use Rattle.lists.proofs.Every.{AllFrom, all_head, all_tail}
 use Rattle.lists.proofs.Sums.{sum_first, sum_same, sum-term, sum-some}
-use Rattle.netlist.specs.WellFormed.{GatePinsBelow, PinsBelow}
+use Rattle.netlist.specs.WellFormed.{PinsBelow}
 use Rattle.netlist.specs.Live.{is_live, if_live, with_gate, reads_from, live_reads_from, live_reads, readers, live_among}
 use Rattle.netlist.specs.Live.{Reached, output_reads, gate_reads, Live, Depends, reads, reads_further}
 

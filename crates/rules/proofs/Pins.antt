@@ -1,13 +1,13 @@
 -- The pins of rules 5 and 6 tested at once, each below a bound of its own: where it is unused, below 1. Assumes nothing.
-use Prim.Native.Nat.{ℕ, zero, suc, ◌≤◌}
+use Prim.Native.Nat.{ℕ, zero, suc}
 use mathlib.Core.Bool.{Bool, true, false, ◌&&◌}
 use mathlib.Core.List.{List, [], ◌∷◌}
 use mathlib.Core.Path.{◌≡◌, refl, sym, ap, ap₂, ◌∙◌}
 use native.Mathlib.Omega.{arith}
 use borrow.Author.Tests.{ne_eqb, le-ltb}
 use lib.Dec.{ltb, eqb}
-use lib.ListN.{length, get_or, take, drop}
-use Rattle.lists.specs.Lists.{all_zero, all_below}
+use lib.ListN.{length, get_or, drop}
+use Rattle.lists.specs.Lists.{all_zero}
 use Rattle.area.specs.Rules.{used_below}
 
 pub four-entries : (ps : List ℕ) → length ps ≡ 4 → ps ≡ get_or ps 0 0 ∷ get_or ps 1 0 ∷ get_or ps 2 0 ∷ get_or ps 3 0 ∷ []

@@ -1,4 +1,4 @@
-use Prim.Native.Nat.{◌-◌, ◌≤◌}
+use Prim.Native.Nat.{◌≤◌}
 use mathlib.Core.List.{[]}
 use Rattle.netlist.specs.declared.Method.TheVariants.{Mask}
 use Rattle.area.specs.Layout as layout

@@ -1,5 +1,4 @@
 -- `counts::enter_gate` meets its contract: pin by pin. Assumes nothing.
-use Prim.Native.Nat.{◌-◌}
 use native.Mathlib.Omega.{arith}
 use Rattle.area.proofs.Words.{pin-below, gate-inside, few-sources}
 use Rattle.counts.proofs.Readers.{entering-first, entering-more, entering-last}

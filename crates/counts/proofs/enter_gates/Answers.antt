@@ -1,5 +1,4 @@
 -- `counts::enter_gates` meets its contract: gate by gate. Assumes nothing.
-use Prim.Native.Nat.{◌-◌}
 use mathlib.Core.Path.{◌≡◌}
 use native.Mathlib.Omega.{arith}
 use Rattle.area.specs.Layout as layout

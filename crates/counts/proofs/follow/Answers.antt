@@ -1,5 +1,4 @@
 -- `counts::follow` meets its contract: the window is followed until it is empty. Assumes nothing.
-use Prim.Native.Nat.{◌-◌}
 use mathlib.Core.Path.{refl, ◌∙◌}
 use native.Mathlib.Omega.{arith}
 use Rattle.counts.proofs.Windows.{followed}

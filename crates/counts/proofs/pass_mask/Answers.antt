@@ -1,5 +1,5 @@
 -- `counts::pass_mask` meets its contract: pin by pin. Assumes nothing.
-use Prim.Native.Nat.{◌-◌, ◌<◌}
+use Prim.Native.Nat.{◌<◌}
 use mathlib.Core.Path.{◌≡◌}
 use native.Mathlib.Omega.{arith}
 use Rattle.area.specs.Layout as layout

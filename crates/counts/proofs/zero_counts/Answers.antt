@@ -1,5 +1,4 @@
 -- `counts::zero_counts` meets its contract: the counts passed are 0. Assumes nothing.
-use Prim.Native.Nat.{◌-◌}
 use mathlib.Core.Path.{◌≡◌, refl, ◌∙◌}
 use native.Mathlib.Omega.{arith}
 use lib.ListN.{length-set}

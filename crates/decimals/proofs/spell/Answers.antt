@@ -1,5 +1,4 @@
 -- `decimals::spell` meets its contract: digit after digit from the last place on. Assumes nothing.
-use Prim.Native.Nat.{◌-◌}
 use mathlib.Core.Path.{refl}
 use native.Mathlib.Omega.{arith}
 use lib.ListN.{length-set}

@@ -1,4 +1,3 @@
-use Prim.Native.Nat.{◌-◌}
 use Rattle.decimals.proofs.Digits.{Spelled}
 use Rattle.decimals.proofs.spell.Given as goal
 

@@ -1,5 +1,5 @@
 -- `figure::fold_first` meets its contract: each turn folds one pair to the front, as in `fold_step`. Assumes nothing.
-use Prim.Native.Nat.{◌+◌, ◌-◌, ◌*◌}
+use Prim.Native.Nat.{◌+◌, ◌*◌}
 use mathlib.Core.Path.{◌≡◌}
 use native.Mathlib.Omega.{arith}
 use Rattle.figure.proofs.Step.{turn, folded, folded_fits}

@@ -1,5 +1,5 @@
 -- `figure::start_values` meets its contract: after i turns the first i values are filled in. Assumes nothing.
-use Prim.Native.Nat.{ℕ, ◌-◌, ◌/◌, ◌%◌, ◌^◌}
+use Prim.Native.Nat.{ℕ, ◌/◌, ◌%◌, ◌^◌}
 use mathlib.Core.Bool.{Bool}
 use mathlib.Core.Path.{◌≡◌, sym, subst}
 use mathlib.Core.List.{map}

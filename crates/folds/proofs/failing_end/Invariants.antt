@@ -1,4 +1,4 @@
-use Prim.Native.Nat.{ℕ, ◌-◌, ◌≤◌, ◌<◌}
+use Prim.Native.Nat.{ℕ, ◌≤◌, ◌<◌}
 use Rattle.area.specs.Layout as layout
 use Rattle.area.specs.Layout.{inputs, pin_count, pin}
 use Rattle.folds.proofs.failing_end.Given as goal

@@ -1,5 +1,5 @@
 -- `folds::lowest_failing` meets its contract: the pins before pin i read inputs. Assumes nothing.
-use Prim.Native.Nat.{ℕ, ◌-◌, ◌<◌}
+use Prim.Native.Nat.{ℕ, ◌<◌}
 use native.Mathlib.Omega.{arith}
 use borrow.Author.Count.{below_none, below_more}
 use Rattle.area.proofs.Words.{gate-inside}

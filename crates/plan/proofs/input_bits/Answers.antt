@@ -1,5 +1,4 @@
 -- `plan::input_bits` meets its contract: the inputs before the one reached have their entries. Assumes nothing.
-use Prim.Native.Nat.{◌-◌}
 use native.Mathlib.Omega.{arith}
 use Rattle.plan.proofs.Laws.{bits_none, bits-more, bits-fewer}
 use Rattle.plan.proofs.input_bits.Goals as goal

@@ -1,4 +1,4 @@
-use Prim.Native.Nat.{◌-◌, ◌≤◌}
+use Prim.Native.Nat.{◌≤◌}
 use Rattle.area.specs.Layout.{gates}
 use Rattle.plan.specs.Plan.{NextLive}
 use Rattle.plan.proofs.next_live.Given as goal

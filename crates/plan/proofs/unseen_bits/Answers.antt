@@ -1,5 +1,5 @@
 -- `plan::unseen_bits` meets its contract: the gates before the one reached have their entries. Assumes nothing.
-use Prim.Native.Nat.{ℕ, ◌+◌, ◌-◌, ◌<◌}
+use Prim.Native.Nat.{ℕ, ◌+◌, ◌<◌}
 use mathlib.Core.Path.{◌≡◌, ap}
 use native.Mathlib.Omega.{arith}
 use Rattle.area.proofs.Words.{few-sources}

@@ -1,5 +1,4 @@
 -- `rows::first_row` meets its contract: each turn makes one entry. Assumes nothing.
-use Prim.Native.Nat.{◌-◌}
 use mathlib.Core.Path.{refl}
 use native.Mathlib.Omega.{arith}
 use borrow.Author.Count.{below_none}

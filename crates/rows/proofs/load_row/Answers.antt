@@ -1,5 +1,4 @@
 -- `rows::load_row` meets its contract: each turn copies one entry. Assumes nothing.
-use Prim.Native.Nat.{◌-◌}
 use mathlib.Core.Path.{refl}
 use native.Mathlib.Omega.{arith}
 use borrow.Author.Count.{below_none}

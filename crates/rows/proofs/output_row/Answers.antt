@@ -1,9 +1,7 @@
 -- `rows::output_row` meets its contract: each turn makes one entry. Assumes nothing.
-use Prim.Native.Nat.{◌-◌}
 use mathlib.Core.Path.{refl}
 use native.Mathlib.Omega.{arith}
 use borrow.Author.Count.{below_none}
-use Rattle.figure.specs.Figure.{output_step}
 use Rattle.rows.specs.Rows.{row_length}
 use Rattle.rows.proofs.Fill.{fill-turn}
 use Rattle.rows.proofs.output_row.Goals as goal

@@ -1,12 +1,8 @@
 -- `rules::all_below` meets its contract: what is left to test from i on decides. Assumes nothing.
-use Prim.Native.Nat.{ℕ, ◌-◌}
-use mathlib.Core.Bool.{Bool}
-use mathlib.Core.List.{List}
+use Prim.Native.Nat.{◌-◌}
 use mathlib.Core.Path.{sym, ◌∙◌}
 use native.Mathlib.Omega.{arith}
 use borrow.Author.Tests.{lt-ltb, le-ltb}
-use lib.Dec.{ltb}
-use lib.ListN.{get_or}
 use Rattle.lists.proofs.Every.{passes_on, fails, ends, below-part}
 use Rattle.rules.proofs.all_below.Invariants.{Test}
 use Rattle.rules.proofs.all_below.Goals as goal

@@ -1,4 +1,4 @@
-use Prim.Native.Nat.{◌-◌, ◌≤◌}
+use Prim.Native.Nat.{◌≤◌}
 use lib.ListN.{length}
 use Rattle.signals.proofs.Lanes.{Packed}
 use Rattle.signals.proofs.input_word.Given as goal

@@ -1,5 +1,4 @@
 -- `signals::input_words` meets its contract: the inputs passed have their words. Assumes nothing.
-use Prim.Native.Nat.{◌-◌}
 use mathlib.Core.Path.{◌≡◌, refl}
 use native.Mathlib.Omega.{arith}
 use Rattle.signals.proofs.Held.{input-more}
