@@ -3,10 +3,9 @@
 
 use comparison::{Compared, Counts, Image, Module, Patterns, Verdict};
 use std::env::Env;
-use std::fs;
 use std::io::{self, Write};
 use std::rt::Files;
-use std::str;
+use std::{fs, str};
 
 fn print_text(rt: &impl Print, text: &[u8]) -> io::Result<()> {
     io::writer(rt).write_all(text)
