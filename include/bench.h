@@ -3,7 +3,7 @@
  * that take images and no area: how far its figures can be from the exact ones, its reliability where
  * gates are shared, and which of two modules stands higher.
  *
- * Link with target/staticlib/libbench_c.a, which `rt staticlib bench_c` writes (x86-64). Every
+ * Link with target/staticlib/libbench_c.a, which `tests/library` writes (x86-64). Every
  * function below is proved to do what its contract in crates/bench_c/src/lib.rt says, for all
  * arguments that keep the rules on pointers. docs/SCOPE.md says in full what is computed.
  *

@@ -24,3 +24,22 @@ pub fn read_full<R: Read>(reader: &mut R, buffer: &mut [u8]) -> io::Result<usize
     }
     Ok(done)
 }
+
+#[cfg(test)]
+mod tests {
+    use super::*;
+    use std::test::Fail;
+
+    #[test]
+    fn joins_the_pieces(rt: HostRuntime) -> Result<(), Fail> {
+        let (first, second): (&[u8], &[u8]) = (b"ab", b"cde");
+        let mut input = first.chain(second);
+        let mut buffer = [0u8; 4];
+        assert_eq!(rt; read_full(&mut input, &mut buffer)?, 4);
+        assert_eq!(rt; buffer, [b'a', b'b', b'c', b'd']);
+        assert_eq!(rt; read_full(&mut input, &mut buffer)?, 1);
+        assert_eq!(rt; buffer[0], b'e');
+        assert_eq!(rt; read_full(&mut input, &mut buffer)?, 0);
+        Ok(())
+    }
+}
