@@ -1,8 +1,9 @@
 # What the scripts ./sheet, ./blif and ./compare share: arguments, the build, reading and writing, the sentences of refusals. Each runs a program of
 # crates/, proved and built first where that is not done for the files as they are, with the progress on standard error. The script sets `script`, its own
-# name; `crate`, the program's; `undone`, what a failure leaves undone; `usage` and `help`.
+# name; `crate`, the program's; `undone`, what a failure leaves undone; `usage` and `help`. tests/library builds the C library by it: it also sets `verb`,
+# the command of rt that builds, and `program`, the file that is there once it is built.
 root=$(dirname "$(readlink -f "${BASH_SOURCE[0]}")")
-program=$root/target/bin/$crate
+program=${program-$root/crates/$crate/out/$crate}
 built=$root/target/$script.built
 log=$root/target/$script.log
 
@@ -50,40 +51,59 @@ look_at() { # FILE
     fi
 }
 
-# The mark, not the program, is compared: a program whose check failed at its last step is there and must not be used.
+# The mark, not the program, is compared: a program whose check failed at its last step is there and must not be used. What a build makes stands in the
+# crates' out/, which says nothing of the files; a crate's own folder is not compared, since out/ comes and goes there.
 is_built() {
-    [[ -x $program && -e $built && -z $(find "$root/crates" "$root/crates.txt" -newer "$built" -print -quit) ]]
+    [[ -e $program && -e $built && ! $root/crates.txt -nt $built ]] || return
+    [[ -z $(find "$root"/crates/*/ -mindepth 1 -name out -prune -o -newer "$built" -print -quit) ]]
 }
 
-# How many crates of the repository the program is made of, itself counted.
-count_crates() {
+# The crates of the repository that the program is made of, in the order in which rt builds them, itself last.
+crates_below() {
     awk -F: -v crate="$crate" '
         function visit(name,    needs, count, i) {
             if (!(name in line) || name in seen) return
             seen[name]
             count = split(line[name], needs, " ")
             for (i = 1; i <= count; i++) visit(needs[i])
+            print name
         }
-        { line[$1] = $2 }
-        END { visit(crate); print length(seen) }' "$root/crates.txt"
+        /^[^#]/ { split($1, words, " "); line[words[1]] = $2 }
+        END { visit(crate) }' "$root/crates.txt"
 }
 
-# Turns rt's line for a crate, "rt: NAME proved (3 s)", into one that says how far it is.
-show_progress() { # HOW MANY CRATES
-    local line at=0
+# Turns what rt prints of a crate, a line "crate NAME: .." and then, if it is proved, one that begins "logic=proved", into one that says how far it is. Of
+# a crate that is built already rt says nothing.
+show_progress() { # CRATE...
+    local line name="" at before=$SECONDS
     while IFS= read -r line; do
-        [[ $line =~ ^rt:\ ([A-Za-z0-9_]+)\ proved\ \((.*)\)$ ]] || continue
-        at=$((at + 1))
-        echo "$script: crate $at of $1, ${BASH_REMATCH[1]}, is proved (${BASH_REMATCH[2]}); $SECONDS s so far" >&2
+        if [[ $line =~ ^crate\ ([a-z0-9_]+): ]]; then
+            name=${BASH_REMATCH[1]}
+        elif [[ -n $name && $line == "logic=proved "* ]]; then
+            for ((at = 1; at < $#; at++)); do [[ ${!at} != "$name" ]] || break; done
+            echo "$script: crate $at of $#, $name, is proved ($((SECONDS - before)) s); $SECONDS s so far" >&2
+            name="" before=$SECONDS
+        fi
     done
 }
 
+# No command of rt builds a program and does no more: `rt run` also runs it, on an empty input here. It says what it does on standard error, and what the
+# program prints is of no use. The other commands say what they do on standard output.
+build_by_rt() {
+    cd "$root/crates/$crate" || return
+    if [[ ${verb-run} == run ]]; then
+        rt run >/dev/null
+    else
+        rt "$verb"
+    fi
+}
+
 prove_and_build() {
-    local count
+    local crates
     rm -f "$built" && touch "$built.begun" || fail "not built: $root/target cannot be written"
-    count=$(count_crates)
-    echo "$script: proving and building $count crates, once; a few minutes on two cores" >&2
-    if ! (cd "$root" && rt check "$crate") </dev/null 2>&1 | tee "$log" | show_progress "$count"; then
+    mapfile -t crates < <(crates_below)
+    echo "$script: proving and building ${#crates[@]} crates, once; several minutes on two cores" >&2
+    if ! build_by_rt </dev/null 2>&1 | tee "$log" | show_progress "${crates[@]}"; then
         tail -n 20 "$log" >&2
         fail "not built: the end of target/$script.log stands above"
     fi
@@ -114,7 +134,7 @@ begin() { # FILE...
     trap 'rm -rf "$copies"' EXIT
 }
 
-# The programs take no notice of a failed read. So they get a copy, of 32,769 bytes at most, one more than any image or text has.
+# So that a failed read is told in a sentence, the programs get a copy, of 32,769 bytes at most, one more than any image or text has.
 copy() { # FILE COPY
     if [[ $1 == - ]]; then
         head -c 32769 >"$2" 2>/dev/null || fail "$undone: standard input could not be read, or no copy of it written"
@@ -123,7 +143,7 @@ copy() { # FILE COPY
     fi
 }
 
-# Nor of a failed write. So their output is taken whole, looked at, and written from here. A reader that went away has what it wanted.
+# So that a failed write is told too, their output is taken whole, looked at, and written from here. A reader that went away has what it wanted.
 deliver() { # FILE
     local said
     { said=$(LC_ALL=C cat -- "$1" 2>&1 >&3); } 3>&1 || [[ $? == 141 || $said == *"Broken pipe"* ]] || fail "the output could not be written whole"

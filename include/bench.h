@@ -3,7 +3,7 @@
  * that take images and no area: how far its figures can be from the exact ones, its reliability where
  * gates are shared, and which of two modules stands higher.
  *
- * Link with target/staticlib/libbench_c.a, which `rt staticlib bench_c` writes (x86-64). Every
+ * Link with target/staticlib/libbench_c.a, which `tests/library` writes (x86-64). Every
  * function below is proved to do what its contract in crates/bench_c/src/lib.rt says, for all
  * arguments that keep the rules on pointers. docs/SCOPE.md says in full what is computed.
  *
@@ -127,9 +127,9 @@
  * type will do. Pointers are aligned for their type. What one pointer of a call can write must not
  * overlap what another pointer of the same call names, and no other thread touches it meanwhile.
  *
- * bench_compare takes up to 264 KB of stack, bench_average 168 KB, bench_read_blif 96 KB,
+ * bench_compare takes up to 264 KB of stack, bench_average 180 KB, bench_read_blif 96 KB,
  * bench_error_of_image 74 KB, bench_shared_reliability 54 KB, bench_open 46 KB, bench_counts_by_flip and
- * bench_counts_by_mask 42 KB, the other calls less. No call allocates memory, and calls that name no area
+ * bench_counts_by_mask 66 KB, the other calls less. No call allocates memory, and calls that name no area
  * or slice in common may run at the same time.
  */
 #ifndef BENCH_H

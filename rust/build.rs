@@ -13,7 +13,7 @@ fn main() {
         println!("cargo::rustc-link-lib=static=bench_c");
     } else {
         println!(
-            "cargo::error=the proved library is not built: run `rt staticlib bench_c` at the top of \
+            "cargo::error=the proved library is not built: run `tests/library` at the top of \
              the repository, it writes target/staticlib/libbench_c.a"
         );
     }

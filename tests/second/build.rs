@@ -15,7 +15,7 @@ fn main() {
         // The model's sheet needs no library, so this stops nothing by itself; the tests then fail to
         // link.
         println!(
-            "cargo:warning={} is missing: run `rt staticlib bench_c` at the repository root",
+            "cargo:warning={} is missing: run `tests/library` at the repository root",
             library.display()
         );
         return;

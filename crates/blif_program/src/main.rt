@@ -4,17 +4,16 @@
 ghost use Rattle.std.specs.Prelude.{◌≤◌};
 
 use blif::BlifRead;
-use libc::{STDIN_FILENO, STDOUT_FILENO};
+use std::io::{self, Write};
 
-fn print_word(text: &[u8], number: u64) {
-    io::write_all(STDOUT_FILENO, text);
-    io::print_decimal(STDOUT_FILENO, number);
+fn print_word(rt: &impl Print, text: &str, number: u64) -> io::Result<()> {
+    print!(rt; "{text}{number}")
 }
 
-fn print_refused(number: u8, place: u32) {
-    print_word(b"refused ", number as u64);
-    print_word(b" ", place as u64);
-    io::write_all(STDOUT_FILENO, b"\n");
+fn print_refused(rt: &impl Print, number: u8, place: u32) -> io::Result<()> {
+    print_word(rt, "refused ", number as u64)?;
+    print_word(rt, " ", place as u64)?;
+    println!(rt;)
 }
 
 // The image is never longer than that, so this takes nothing away: it bounds what is written.
@@ -25,15 +24,15 @@ fn at_most(bytes: u32) -> usize
 }
 
 // The longest text has 32,768 bytes; one byte more is read, so that a longer one is refused. The largest image has 20,624 bytes.
-fn main() {
+fn main(rt: HostRuntime) -> io::Result<()> {
     let mut text = [0u8; 32769];
-    let length = io::read_full(STDIN_FILENO, &mut text);
+    let length = reading::read_full(&mut rt.stdin(), &mut text)?;
     let mut image = [0u8; 20624];
     match blif::read_blif(&text[..length], &mut image) {
         BlifRead::Done(bytes) => {
             let length = at_most(bytes);
-            io::write_all(STDOUT_FILENO, &image[..length]);
+            io::writer(&rt).write_all(&image[..length])
         }
-        BlifRead::Refused(number, place) => print_refused(number, place),
+        BlifRead::Refused(number, place) => print_refused(&rt, number, place),
     }
 }

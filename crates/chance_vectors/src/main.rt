@@ -5,7 +5,7 @@
 ghost use Rattle.std.specs.Prelude.{◌<◌};
 
 use chance::{FlipRead, FlipUnits};
-use libc::{STDIN_FILENO, STDOUT_FILENO};
+use std::io::{self, Read};
 
 // No run has as many vectors: a loop must be seen to end.
 const MOST: u64 = 1_000_000;
@@ -56,48 +56,40 @@ fn agrees(v: [u8; 14]) -> bool {
     }
 }
 
-fn next_vector() -> Vector {
+fn next_vector<R: Read>(input: &mut R) -> io::Result<Vector> {
     let mut v = [0u8; 14];
-    let n = io::read_full(STDIN_FILENO, &mut v);
+    let n = reading::read_full(input, &mut v)?;
     if n < 14 {
-        return Vector::Missing;
+        return Ok(Vector::Missing);
     }
     if agrees(v) {
-        Vector::Agrees
+        Ok(Vector::Agrees)
     } else {
-        Vector::Differs
+        Ok(Vector::Differs)
     }
 }
 
-fn compare() -> Tally {
+fn compare<R: Read>(input: &mut R) -> io::Result<Tally> {
     let mut count: u64 = 0;
     while count < MOST {
-        match next_vector() {
+        match next_vector(input)? {
             Vector::Agrees => {
                 count += 1;
             }
             Vector::Differs => {
-                return Tally::Differs(count);
+                return Ok(Tally::Differs(count));
             }
             Vector::Missing => {
-                return Tally::Agree(count);
+                return Ok(Tally::Agree(count));
             }
         }
     }
-    Tally::Agree(count)
+    Ok(Tally::Agree(count))
 }
 
-fn main() {
-    match compare() {
-        Tally::Agree(count) => {
-            io::write_all(STDOUT_FILENO, b"conversions ");
-            io::print_decimal(STDOUT_FILENO, count);
-            io::write_all(STDOUT_FILENO, b" agree\n");
-        }
-        Tally::Differs(number) => {
-            io::write_all(STDOUT_FILENO, b"conversion ");
-            io::print_decimal(STDOUT_FILENO, number);
-            io::write_all(STDOUT_FILENO, b" differs\n");
-        }
+fn main(rt: HostRuntime) -> io::Result<()> {
+    match compare(&mut rt.stdin())? {
+        Tally::Agree(count) => println!(rt; "conversions {count} agree"),
+        Tally::Differs(number) => println!(rt; "conversion {number} differs"),
     }
 }

@@ -2,101 +2,105 @@
 #![tactic(auto)]
 
 use comparison::{Compared, Counts, Image, Module, Patterns, Verdict};
-use libc::STDOUT_FILENO;
+use std::env::Env;
+use std::io::{self, Write};
+use std::rt::Files;
+use std::{fs, str};
 
-fn print_text(text: &[u8]) {
-    io::write_all(STDOUT_FILENO, text);
+fn print_text(rt: &impl Print, text: &[u8]) -> io::Result<()> {
+    io::writer(rt).write_all(text)
 }
 
-fn print_word(text: &[u8], number: u64) {
-    print_text(text);
-    io::print_decimal(STDOUT_FILENO, number);
+fn print_word(rt: &impl Print, text: &str, number: u64) -> io::Result<()> {
+    print!(rt; "{text}{number}")
 }
 
 // Parts of 10^-10 as a decimal fraction with ten decimals.
-fn print_parts(parts: u64) {
-    print_word(b"", parts / decimals::PARTS_IN_ONE);
+fn print_parts(rt: &impl Print, parts: u64) -> io::Result<()> {
+    print_word(rt, "", parts / decimals::PARTS_IN_ONE)?;
     let text = decimals::spell(parts);
-    print_text(b".");
-    print_text(&text[..]);
+    print_text(rt, b".")?;
+    print_text(rt, &text[..])
 }
 
 // After the units the average as a decimal fraction, and an error that holds for that fraction as it is printed.
-fn print_module(module: Module) {
-    print_word(b"inputs ", module.inputs as u64);
-    print_word(b" gates ", module.gates as u64);
-    print_word(b" outputs ", module.outputs as u64);
-    print_word(b" live ", module.live as u64);
-    print_word(b" average ", module.average as u64);
-    print_word(b" error ", module.error as u64);
-    print_text(b" ");
-    print_parts(decimals::shown_parts(module.average));
-    print_text(b" \xc2\xb1 ");
-    print_parts(decimals::shown_error(module.average, module.error));
-    print_text(b"\n");
+fn print_module(rt: &impl Print, module: Module) -> io::Result<()> {
+    print_word(rt, "inputs ", module.inputs as u64)?;
+    print_word(rt, " gates ", module.gates as u64)?;
+    print_word(rt, " outputs ", module.outputs as u64)?;
+    print_word(rt, " live ", module.live as u64)?;
+    print_word(rt, " average ", module.average as u64)?;
+    print_word(rt, " error ", module.error as u64)?;
+    print_text(rt, b" ")?;
+    print_parts(rt, decimals::shown_parts(module.average))?;
+    print_text(rt, b" \xc2\xb1 ")?;
+    print_parts(rt, decimals::shown_error(module.average, module.error))?;
+    print_text(rt, b"\n")
 }
 
-fn print_verdict(verdict: Verdict) {
+fn print_verdict(rt: &impl Print, verdict: Verdict) -> io::Result<()> {
     match verdict {
-        Verdict::First => print_text(b"first\n"),
-        Verdict::Second => print_text(b"second\n"),
-        Verdict::Undecided => print_text(b"undecided\n"),
+        Verdict::First => print_text(rt, b"first\n"),
+        Verdict::Second => print_text(rt, b"second\n"),
+        Verdict::Undecided => print_text(rt, b"undecided\n"),
     }
 }
 
-fn print_counts(counts: Counts) {
-    print_word(b"patterns first ", counts.first as u64);
-    print_word(b" second ", counts.second as u64);
-    print_word(b" neither ", counts.neither as u64);
-    print_text(b"\n");
+fn print_counts(rt: &impl Print, counts: Counts) -> io::Result<()> {
+    print_word(rt, "patterns first ", counts.first as u64)?;
+    print_word(rt, " second ", counts.second as u64)?;
+    print_word(rt, " neither ", counts.neither as u64)?;
+    print_text(rt, b"\n")
 }
 
-fn print_patterns(patterns: Patterns) {
+fn print_patterns(rt: &impl Print, patterns: Patterns) -> io::Result<()> {
     match patterns {
-        Patterns::Counted(counts) => print_counts(counts),
-        Patterns::Unlike => {}
+        Patterns::Counted(counts) => print_counts(rt, counts),
+        Patterns::Unlike => Ok(()),
     }
 }
 
-fn print_refused(image: Image, number: u8, place: u32) {
+fn print_refused(rt: &impl Print, image: Image, number: u8, place: u32) -> io::Result<()> {
     match image {
-        Image::First => print_text(b"refused first"),
-        Image::Second => print_text(b"refused second"),
+        Image::First => print_text(rt, b"refused first")?,
+        Image::Second => print_text(rt, b"refused second")?,
     }
-    print_word(b" ", number as u64);
-    print_word(b" ", place as u64);
-    print_text(b"\n");
+    print_word(rt, " ", number as u64)?;
+    print_word(rt, " ", place as u64)?;
+    print_text(rt, b"\n")
 }
 
-fn print_compared(compared: Compared) {
+fn print_compared(rt: &impl Print, compared: Compared) -> io::Result<()> {
     match compared {
         Compared::Done(verdict, first, second, patterns) => {
-            print_module(first);
-            print_module(second);
-            print_verdict(verdict);
-            print_patterns(patterns);
+            print_module(rt, first)?;
+            print_module(rt, second)?;
+            print_verdict(rt, verdict)?;
+            print_patterns(rt, patterns)
         }
-        Compared::Refused(image, number, place) => print_refused(image, number, place),
+        Compared::Refused(image, number, place) => print_refused(rt, image, number, place),
     }
 }
 
-// Opens the file that an argument names, or answers -1.
-fn open_argument(i: usize) -> i32 {
-    let mut path = io::buffer();
-    let length = os::arg(i, &mut path);
-    os::open_read(&path[..length])
+// Opens the file that an argument names; none where there is no such argument, or no such file, or a path that is no UTF-8.
+fn open_argument<R: Files + Env>(rt: &R, i: usize) -> Option<R::File> {
+    let mut path = [0u8; 4096];
+    let length = rt.arg(i, &mut path).ok()?;
+    let path = str::from_utf8(&path[..length]).ok()?;
+    fs::open(rt, path).ok()
 }
 
 // The largest image has 32,768 bytes; one byte more is read, so that a longer one is refused. A file that cannot be opened leaves the output empty.
-fn main() {
-    let one = open_argument(1);
-    let other = open_argument(2);
-    if one < 0 || other < 0 {
-        return;
-    }
+fn main(rt: HostRuntime) -> io::Result<()> {
+    let one = open_argument(&rt, 1);
+    let other = open_argument(&rt, 2);
+    let (Some(mut one), Some(mut other)) = (one, other) else {
+        return Ok(());
+    };
     let mut first = [0u8; 32769];
     let mut second = [0u8; 32769];
-    let first_length = io::read_full(one, &mut first);
-    let second_length = io::read_full(other, &mut second);
-    print_compared(comparison::compare(&first[..first_length], &second[..second_length]));
+    let first_length = reading::read_full(&mut one, &mut first)?;
+    let second_length = reading::read_full(&mut other, &mut second)?;
+    let compared = comparison::compare(&first[..first_length], &second[..second_length]);
+    print_compared(&rt, compared)
 }

@@ -5,21 +5,20 @@ ghost use Rattle.std.specs.Prelude.{◌≤◌, ◌≡◌, length};
 ghost use Rattle.area.specs.Layout.{most_inputs, most_patterns, head_words};
 
 use bench::{Averaged, NetlistRead, Opened};
-use libc::{STDIN_FILENO, STDOUT_FILENO};
+use std::io::{self, Write};
 
-fn print_word(text: &[u8], number: u64) {
-    io::write_all(STDOUT_FILENO, text);
-    io::print_decimal(STDOUT_FILENO, number);
+fn print_word(rt: &impl Print, text: &str, number: u64) -> io::Result<()> {
+    print!(rt; "{text}{number}")
 }
 
-fn end_line() {
-    io::write_all(STDOUT_FILENO, b"\n");
+fn end_line(rt: &impl Print) -> io::Result<()> {
+    println!(rt;)
 }
 
-fn print_refused(number: u8, place: u32) {
-    print_word(b"refused ", number as u64);
-    print_word(b" ", place as u64);
-    end_line();
+fn print_refused(rt: &impl Print, number: u8, place: u32) -> io::Result<()> {
+    print_word(rt, "refused ", number as u64)?;
+    print_word(rt, " ", place as u64)?;
+    end_line(rt)
 }
 
 // An opened netlist has no more inputs than that, so this takes nothing away: it bounds what is printed.
@@ -48,19 +47,18 @@ fn spell_pattern(pattern: u32) -> [u8; area::MOST_INPUTS]
     text
 }
 
-fn print_pattern(pattern: u32, inputs: usize)
+fn print_pattern(rt: &impl Print, pattern: u32, inputs: usize) -> io::Result<()>
     requires { inputs ≤ most_inputs }
 {
     if inputs == 0 {
-        io::write_all(STDOUT_FILENO, b"-");
-        return;
+        return print!(rt; "-");
     }
     let text = spell_pattern(pattern);
-    io::write_all(STDOUT_FILENO, &text[..inputs]);
+    io::writer(rt).write_all(&text[..inputs])
 }
 
 // One line: the area's pattern and its reliability.
-fn print_reliability(area: &[u32], inputs: usize)
+fn print_reliability(rt: &impl Print, area: &[u32], inputs: usize) -> io::Result<()>
     requires { inputs ≤ most_inputs }
 {
     match bench::read_netlist(area) {
@@ -69,11 +67,11 @@ fn print_reliability(area: &[u32], inputs: usize)
             units,
             reliability: _,
         } => {
-            print_pattern(pattern, inputs);
-            print_word(b" ", units as u64);
-            end_line();
+            print_pattern(rt, pattern, inputs)?;
+            print_word(rt, " ", units as u64)?;
+            end_line(rt)
         }
-        NetlistRead::Refused(number, place) => print_refused(number, place),
+        NetlistRead::Refused(number, place) => print_refused(rt, number, place),
     }
 }
 
@@ -93,16 +91,17 @@ fn next_pattern(area: &mut [u32], q: usize, inputs: usize)
     }
 }
 
-fn print_patterns(area: &mut [u32], inputs: usize)
+fn print_patterns(rt: &impl Print, area: &mut [u32], inputs: usize) -> io::Result<()>
     requires { inputs ≤ most_inputs }
 {
     let count = average::pattern_count(inputs);
     let mut q = 0;
     while q < count {
-        print_reliability(area, inputs);
+        print_reliability(rt, area, inputs)?;
         next_pattern(area, q, inputs);
         q += 1;
     }
+    Ok(())
 }
 
 fn equal_weights() -> [u32; area::MOST_PATTERNS]
@@ -111,42 +110,42 @@ fn equal_weights() -> [u32; area::MOST_PATTERNS]
     [1; area::MOST_PATTERNS]
 }
 
-fn print_average(area: &mut [u32], inputs: usize)
+fn print_average(rt: &impl Print, area: &mut [u32], inputs: usize) -> io::Result<()>
     requires { inputs ≤ most_inputs }
 {
     let weights = equal_weights();
     let count = average::pattern_count(inputs);
     match bench::average(area, &weights[..count]) {
         Averaged::Done(units) => {
-            print_word(b"average ", units as u64);
-            end_line();
+            print_word(rt, "average ", units as u64)?;
+            end_line(rt)
         }
-        Averaged::Refused(number, place) => print_refused(number, place),
+        Averaged::Refused(number, place) => print_refused(rt, number, place),
     }
 }
 
-fn print_counts(area: &[u32], live: u32)
+fn print_counts(rt: &impl Print, area: &[u32], live: u32) -> io::Result<()>
     requires { head_words ≤ length area.now }
 {
-    print_word(b"inputs ", area::inputs(area) as u64);
-    print_word(b" gates ", area::gates(area) as u64);
-    print_word(b" outputs ", area::outputs(area) as u64);
-    print_word(b" live ", live as u64);
-    end_line();
+    print_word(rt, "inputs ", area::inputs(area) as u64)?;
+    print_word(rt, " gates ", area::gates(area) as u64)?;
+    print_word(rt, " outputs ", area::outputs(area) as u64)?;
+    print_word(rt, " live ", live as u64)?;
+    end_line(rt)
 }
 
 // The largest image has 32,768 bytes; one byte more is read, so that a longer one is refused. The area holds the largest netlist.
-fn main() {
+fn main(rt: HostRuntime) -> io::Result<()> {
     let mut image = [0u8; 32769];
-    let length = io::read_full(STDIN_FILENO, &mut image);
+    let length = reading::read_full(&mut rt.stdin(), &mut image)?;
     let mut area = [0u32; area::MOST_WORDS];
     match bench::open(&mut area, &image[..length]) {
         Opened::Done(live) => {
-            print_counts(&area, live);
+            print_counts(&rt, &area, live)?;
             let inputs = at_most(area::inputs(&area));
-            print_patterns(&mut area, inputs);
-            print_average(&mut area, inputs);
+            print_patterns(&rt, &mut area, inputs)?;
+            print_average(&rt, &mut area, inputs)
         }
-        Opened::Refused(number, place) => print_refused(number, place),
+        Opened::Refused(number, place) => print_refused(&rt, number, place),
     }
 }

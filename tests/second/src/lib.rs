@@ -1,7 +1,7 @@
 //! The second program: document 01 written once more, without a look at the proved code, and what
 //! the tests need to hold the proved library against it.
 //!
-//! One command, in this directory, after `rt staticlib bench_c` at the repository root:
+//! One command, in this directory, after `tests/library` at the repository root:
 //!
 //! ```text
 //! cargo test --release --offline
