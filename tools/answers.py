@@ -398,7 +398,8 @@ class Turn:
                 if mm:
                     s.places_fn[m[2]] = place_of(f, mm[3])
                     continue
-                mm = re.match(f'tie\\.({ID})((?: invariant-{ID}| decreases-{ID})*) → tie\\.({ID})((?: invariant-{ID}| decreases-{ID})*)$', b[m.start(3):].split('\n')[0])
+                loops = f'(?: invariant-{ID}| decreases-{ID})*'
+                mm = re.match(f'tie\\.({ID})({loops}) → tie\\.({ID})({loops})$', b[m.start(3):].split('\n')[0])
                 if mm:
                     s.places_fn[m[2]] = place_of(f, mm[3])
                     continue
@@ -440,7 +441,8 @@ class Turn:
                     if re.search(f'(λ {re.escape(p)}[ .]|\\({re.escape(p)} :|let {re.escape(p)} )', body):
                         s.log.append(f'SHADOW {f.crate}::{f.fn} {p}')
                 mp = {p: x for p, (v, x) in zip(params, fields) if p != '_'}
-                body = re.sub(f"(?<![\\w'.-])({'|'.join((re.escape(p) for p in sorted(mp, key=len, reverse=True)))})(?![\\w'-])", lambda k: mp[k[1]], body) if mp else body
+                named = '|'.join((re.escape(p) for p in sorted(mp, key=len, reverse=True)))
+                body = re.sub(f"(?<![\\w'.-])({named})(?![\\w'-])", lambda k: mp[k[1]], body) if mp else body
                 inv.append('\n'.join(lead + [f'abbrev pub {kind}-{ln} : goal.{kind}-{ln}', f'{d[1]}{kind}-{ln} l ={body}'.rstrip()]))
                 continue
             m = re.match(f'(?:pub )?({ID}) : tie\\.(Need-{ID})(.*)\\n', b)
@@ -468,7 +470,8 @@ class Turn:
                 for q in sorted(set(re.findall(f'\\(goal\\.at\\.{re.escape(new)} {re.escape(root)}\\)\\.({ID})', body))):
                     e = f'(goal.at.{new} {root}).{q}'
                     if body.count(e) >= 3:
-                        v = next((x for x in {'Start': ['start']}.get(q, ['turn'] if q.startswith('In-loop') else []) + ['there', 'past', 'then_', 'at_goal', 'back', 'spot', 'site'] if x not in taken))
+                        likely = {'Start': ['start']}.get(q, ['turn'] if q.startswith('In-loop') else [])
+                        v = next((x for x in likely + ['there', 'past', 'then_', 'at_goal', 'back', 'spot', 'site'] if x not in taken))
                         taken.add(v)
                         body = '\n    let ' + v + ' = ' + e + ' in\n    ' + body.replace(e, v).lstrip()
                 ask = s.f.asked.get(norm(oldneed))
@@ -587,7 +590,9 @@ def named_values(text, fn, mutable):
             if parameters:
                 lent = [it for it, is_lent in parameters if is_lent]
                 dot = '' if is_new else '\\.new'
-                block = re.sub(f"(?<![\\w'.-]){re.escape(name)}{dot}\\.(\\d+)", lambda it: f"{name}{('' if is_new else '.new')}.{lent[int(it[1])]}" if int(it[1]) < len(lent) else it[0], block)
+                at_new = name if is_new else f'{name}.new'
+                by_name = lambda it: f'{at_new}.{lent[int(it[1])]}' if int(it[1]) < len(lent) else it[0]
+                block = re.sub(f"(?<![\\w'.-]){re.escape(name)}{dot}\\.(\\d+)", by_name, block)
             for (old, path), to in fn.arm.items():
                 if path and fn.step.get(old) == step:
                     block = re.sub(f"(?<![\\w'.-]){re.escape(name)}\\.{re.escape('.'.join(path))}(?![\\w'-])", f'{root}.{to}', block)
@@ -599,7 +604,8 @@ def whole_clauses(text, fn):
     for step, fields in fn.clause.items():
         if len(fields) < 2:
             continue
-        text = re.sub(f"(?<!at )(?<!= )(?<![\\w'.-])([a-z])\\.{re.escape(step)}\\.ensures(?![\\w'.-])", lambda it: '(' + ', '.join((f'{it[1]}.{step}.ensures.{field}' for field in fields)) + ')', text)
+        whole = lambda it: '(' + ', '.join((f'{it[1]}.{step}.ensures.{field}' for field in fields)) + ')'
+        text = re.sub(f"(?<!at )(?<!= )(?<![\\w'.-])([a-z])\\.{re.escape(step)}\\.ensures(?![\\w'.-])", whole, text)
     return text
 
 def main():

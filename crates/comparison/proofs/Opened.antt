@@ -1,15 +1,13 @@
 -- What an image that opening accepts leaves in an area of zeros. Assumes nothing.
-use Prim.Native.Nat.{ℕ, ◌^◌, ◌≤◌, ◌<◌}
+use Prim.Native.Nat.{ℕ, ◌≤◌}
 use mathlib.Core.List.{List, [], ◌++◌}
 use mathlib.Core.Path.{◌≡◌, refl, sym, ap, ◌∙◌}
 use native.Mathlib.Omega.{arith}
 use lib.ListN.{length, drop, length-replicate}
 use Rattle.refusal.specs.declared.Judgement.{Judgement}
 use Rattle.refusal.specs.declared.Judgement.TheVariants.{Fine, Refused}
-use Rattle.rounding.specs.Rounding.{units_in_one}
-use Rattle.netlist.specs.Netlist.{Netlist}
 use Rattle.bound.specs.Sharp.{error_halves}
-use Rattle.area.specs.Layout.{most_words, most_inputs, inputs, gates, outputs, pattern_index, needed}
+use Rattle.area.specs.Layout.{most_words, most_inputs, inputs, gates, outputs, needed}
 use Rattle.area.specs.Rules.{Workable}
 use Rattle.area.specs.Net.{net_of}
 use Rattle.area.specs.Sum.{with_sum}

@@ -9,7 +9,6 @@ use Rattle.image.specs.Netlist.{image_net}
 use Rattle.calls.specs.Judgements.{image_judgement}
 use Rattle.calls.specs.Calls.{open_words, open_live, reliability_for, average_of}
 use Rattle.comparison.specs.declared.Module.{Module}
-use Rattle.comparison.specs.declared.Image.{Image}
 use Rattle.comparison.specs.declared.Image.TheVariants.{First as FirstImage, Second as SecondImage}
 use Rattle.comparison.specs.declared.ErrorRead.{ErrorRead}
 use Rattle.comparison.specs.declared.ErrorRead.TheVariants.{Done as ErrorDone, Refused as ErrorRefused}

@@ -1,11 +1,11 @@
 -- The errors of an image that is opened: each figure, and the average with weight 1 for every pattern, in units and as it is printed. Assumes nothing.
-use Prim.Native.Nat.{ℕ, zero, suc, ◌+◌, ◌*◌, ◌^◌, ◌≤◌, ◌<◌}
+use Prim.Native.Nat.{ℕ, zero, suc, ◌+◌, ◌*◌, ◌^◌, ◌<◌}
 use mathlib.Core.Bool.{false}
 use mathlib.Core.List.{List}
 use mathlib.Core.Path.{◌≡◌, refl, sym, ap, subst, ◌∙◌}
-use native.Mathlib.Nat.{one-le-pow, mul-pos}
+use native.Mathlib.Nat.{one-le-pow}
 use native.Mathlib.Omega.{arith}
-use lib.ListN.{length, get_or, replicate, length-replicate, get_or-replicate}
+use lib.ListN.{length, replicate, length-replicate, get_or-replicate}
 use lib.Pow.{pow_pos}
 use Rattle.lists.specs.Lists.{all_zero}
 use Rattle.refusal.specs.declared.Judgement.TheVariants.{Fine}
@@ -14,7 +14,6 @@ use Rattle.chance.specs.Number.{chance_scale}
 use Rattle.decimals.specs.Decimals.{parts_in_one}
 use Rattle.decimals.specs.Statements.{WithinHalves}
 use Rattle.decimals.proofs.Shown.{shown-holds}
-use Rattle.netlist.specs.Netlist.{Netlist}
 use Rattle.bound.specs.Sharp.{error_halves}
 use Rattle.bound.proofs.Average.{sharp-bound}
 use Rattle.area.specs.Layout.{inputs}
@@ -24,11 +23,11 @@ use Rattle.calls.specs.Judgements.{WeightsFit, image_judgement}
 use Rattle.book.specs.Book.{image_book}
 use Rattle.book.specs.Statement.{WithinSharp}
 use Rattle.chance.proofs.Exact.{scale-pos}
-use Rattle.book.proofs.Agree.{same-input-count, well-formed, kinds-honest}
+use Rattle.book.proofs.Agree.{well-formed, kinds-honest}
 use Rattle.book.proofs.Average.{reliability-for, average-sharp, total-positive}
-use Rattle.comparison.specs.Images.{new_area, opened_words, figures_of, ones, equal_average}
+use Rattle.comparison.specs.Images.{new_area, opened_words, ones, equal_average}
 use Rattle.comparison.proofs.Opened.{opened-inputs, agree}
-use Rattle.comparison_meaning.specs.Statements.{exact_total, exact_parts, exact_weight, ErrorHolds, ErrorsHold, PrintedHolds}
+use Rattle.comparison_meaning.specs.Statements.{exact_total, exact_parts, exact_weight, ErrorsHold, PrintedHolds}
 
 not-all-zero : (k : ℕ) → 0 < k → all_zero (replicate k 1) ≡ false
 not-all-zero zero l = absurd (omega arith)

@@ -2,7 +2,7 @@
 use Prim.Native.Nat.{ℕ, zero, suc, ◌+◌, ◌*◌, ◌^◌, ◌≤◌, ◌<◌}
 use mathlib.Core.Bool.{Bool, true, false, cond}
 use mathlib.Core.List.{List}
-use mathlib.Core.Path.{◌≡◌, refl, sym, ap, subst, ◌∙◌}
+use mathlib.Core.Path.{◌≡◌, refl, subst}
 use native.Mathlib.Nat.{mul-pos}
 use native.Mathlib.Omega.{arith}
 use borrow.Author.Tests.{lt-ltb, eqb-true}
@@ -10,7 +10,7 @@ use lib.Dec.{eqb}
 use Rattle.lists.specs.Lists.{sum_below}
 use Rattle.lists.proofs.Sums.{sum-scaled}
 use Rattle.refusal.specs.declared.Judgement.TheVariants.{Fine}
-use Rattle.rounding.specs.Rounding.{units_in_one, Near}
+use Rattle.rounding.specs.Rounding.{units_in_one}
 use Rattle.chance.specs.Number.{chance_scale}
 use Rattle.figure.specs.Figure.{bit_of}
 use Rattle.netlist.specs.Exact.{exact_sum}
@@ -21,16 +21,15 @@ use Rattle.calls.specs.Judgements.{image_judgement}
 use Rattle.comparison.specs.declared.Verdict.{Verdict}
 use Rattle.comparison.specs.declared.Verdict.TheVariants.{First, Second, Undecided}
 use Rattle.comparison.specs.declared.Counts.{Counts}
-use Rattle.comparison.specs.declared.Patterns.{Patterns}
 use Rattle.comparison.specs.declared.Patterns.TheVariants.{Counted, Unlike}
-use Rattle.comparison.specs.Standing.{same_verdict, both_errors, averages_verdict, how_often, counts_by, patterns_between}
+use Rattle.comparison.specs.Standing.{same_verdict, both_errors, how_often, counts_by, patterns_between}
 use Rattle.comparison.specs.Images.{figures_of, equal_average, module_of}
 use Rattle.comparison_meaning.specs.Statements.{exact_total, exact_parts, exact_weight, ExactlyHigher, higher_for, higher_count}
 use Rattle.comparison_meaning.specs.Statements.{HigherMeansHigher, verdict_for, CountsMean, PatternsMeanHigher, AveragesDecide}
 use Rattle.comparison_meaning.proofs.Order.{separate}
 use Rattle.comparison_meaning.proofs.Errors.{errors-hold, average-near, some-parts, some-weight}
 use Rattle.comparison_meaning.proofs.Verdicts.{decided-beyond}
-use Rattle.comparison_meaning.proofs.Answers.{Told, told}
+use Rattle.comparison_meaning.proofs.Answers.{told}
 
 -- averages further apart than both errors and half a unit each
 average-higher : (bs cs : List ℕ) → image_judgement bs ≡ Fine → image_judgement cs ≡ Fine

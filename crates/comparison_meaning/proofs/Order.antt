@@ -1,7 +1,6 @@
 -- Two figures that are further apart than their errors together leave no doubt about what they stand for. Assumes nothing.
-use Prim.Native.Nat.{ℕ, ◌+◌, ◌*◌, ◌≤◌, ◌<◌}
+use Prim.Native.Nat.{ℕ, ◌+◌, ◌*◌, ◌<◌}
 use mathlib.Core.Logic.{by_cases}
-use mathlib.Core.Path.{◌≡◌}
 use native.Mathlib.Nat.{mul-le-mul_right, mul-le-mul_left, mul-pos}
 use native.Mathlib.Decide.{dec_lt}
 use native.Mathlib.Omega.{arith}

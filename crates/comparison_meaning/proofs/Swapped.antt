@@ -1,7 +1,6 @@
 -- The images the other way round, and an image beside itself. Assumes nothing.
-use Prim.Native.Nat.{ℕ, zero, suc, ◌+◌, ◌^◌, ◌<◌}
+use Prim.Native.Nat.{ℕ, zero, suc, ◌+◌, ◌^◌}
 use mathlib.Core.Bool.{Bool, true, false, cond}
-use mathlib.Core.List.{List}
 use mathlib.Core.Logic.{◌⊎◌, ⊎_elim, by_cases}
 use mathlib.Core.Path.{◌≡◌, refl, sym, ap, ap₂, ◌∙◌}
 use native.Mathlib.Nat.{add_comm}
@@ -9,24 +8,21 @@ use native.Mathlib.Decide.{ℕ_discrete}
 use native.Mathlib.Omega.{arith}
 use borrow.Author.Tests.{eqb-true, eq-eqb, ne_eqb}
 use lib.Dec.{eqb}
-use Rattle.lists.specs.Lists.{sum_below}
 use Rattle.lists.proofs.Sums.{sum_same}
 use Rattle.refusal.specs.declared.Judgement.{Judgement}
 use Rattle.refusal.specs.declared.Judgement.TheVariants.{Fine, Refused}
 use Rattle.refusal.proofs.Laws.{refused-not-fine}
 use Rattle.figure.specs.Figure.{bit_of}
-use Rattle.image.specs.Image.{image_inputs}
 use Rattle.calls.specs.Judgements.{image_judgement}
 use Rattle.comparison.specs.declared.Verdict.{Verdict}
 use Rattle.comparison.specs.declared.Verdict.TheVariants.{First, Second, Undecided}
 use Rattle.comparison.specs.declared.Module.{Module}
-use Rattle.comparison.specs.declared.Counts.{Counts}
 use Rattle.comparison.specs.declared.Patterns.{Patterns}
 use Rattle.comparison.specs.declared.Patterns.TheVariants.{Counted, Unlike}
 use Rattle.comparison.specs.declared.Compared.{Compared}
 use Rattle.comparison.specs.declared.Compared.TheVariants.{Done}
 use Rattle.comparison.specs.Standing.{verdict, same_verdict, both_errors, averages_verdict, how_often, counts_by, pattern_verdict, patterns_between, answered}
-use Rattle.comparison.specs.Images.{figures_of, module_of, compared_if, compared}
+use Rattle.comparison.specs.Images.{figures_of, module_of, compared_if}
 use Rattle.comparison.proofs.Deciding.{counts-are}
 use Rattle.comparison_meaning.specs.Statements.{swap_verdict, swap_patterns, swapped, SwapSwaps, SelfUndecided}
 use Rattle.comparison_meaning.proofs.Verdicts.{swap-verdict, same-undecided}

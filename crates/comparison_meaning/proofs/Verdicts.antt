@@ -2,7 +2,7 @@
 use Prim.Native.Nat.{ℕ, ◌+◌, ◌*◌, ◌≤◌, ◌<◌}
 use mathlib.Core.Bool.{true, false}
 use mathlib.Core.Logic.{by_cases}
-use mathlib.Core.Path.{◌≡◌, refl, sym, ap, ◌∙◌}
+use mathlib.Core.Path.{◌≡◌, sym, ap, ◌∙◌}
 use native.Mathlib.Decide.{dec_lt}
 use native.Mathlib.Omega.{arith}
 use borrow.Author.Tests.{lt-ltb, le-ltb}
@@ -10,7 +10,7 @@ use Rattle.comparison.specs.declared.Verdict.{Verdict}
 use Rattle.comparison.specs.declared.Verdict.TheVariants.{First, Second, Undecided}
 use Rattle.comparison.specs.Standing.{beyond, verdict, verdict_number}
 use Rattle.comparison.proofs.Deciding.{first-higher, second-higher, none-higher}
-use Rattle.comparison_meaning.specs.Statements.{swap_verdict, VerdictMeans, DecidedBeyond}
+use Rattle.comparison_meaning.specs.Statements.{swap_verdict, DecidedBeyond}
 
 module _ (slack : ℕ) where
   is-beyond : (a b : ℕ) → 2 * b + slack < 2 * a → beyond slack a b ≡ true

@@ -1,6 +1,5 @@
 -- Worked comparisons, as a table; proofs/Examples.antt computes it. The images are those of the table of sheets.
 use Rattle.std.specs.Prelude.{ℕ, List, [], ◌∷◌, map, ◌≡◌}
-use Rattle.comparison.specs.declared.Verdict.{Verdict}
 use Rattle.comparison.specs.declared.Verdict.TheVariants.{First, Second, Undecided}
 use Rattle.comparison.specs.declared.Module.{Module}
 use Rattle.comparison.specs.declared.Patterns.{Patterns}

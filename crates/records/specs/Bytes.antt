@@ -1,5 +1,5 @@
 -- An image with an empty heading, byte by byte: gate records, output words, the trailer.
-use Rattle.std.specs.Prelude.{ℕ, ◌+◌, ◌/◌, ◌%◌, List, [], ◌∷◌, ◌++◌, length, get_or, replicate}
+use Rattle.std.specs.Prelude.{ℕ, ◌/◌, ◌%◌, List, [], ◌∷◌, ◌++◌, length, get_or, replicate}
 use Rattle.lists.specs.Lists.{joined}
 use Rattle.netlist.specs.Netlist.{Gate, Netlist, gate_at}
 use Rattle.image.specs.Image.{known_format, middle_bytes, image_length, eight_bytes}

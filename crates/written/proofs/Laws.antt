@@ -16,7 +16,7 @@ use Rattle.chance.specs.Flip.{flip_units}
 use Rattle.flips.specs.Written.{units_kind, units_field}
 use Rattle.flips.specs.Statements.{ReadBack}
 use Rattle.flips.proofs.Laws.{units-read-back}
-use Rattle.area.specs.Layout.{inputs, gates, outputs, pin_count, table, pins, flip, output}
+use Rattle.area.specs.Layout.{gates, outputs, pin_count, table, pins, flip, output}
 use Rattle.area.specs.Rules.{Workable, Sound}
 use Rattle.area.proofs.Words.{output-source}
 use Rattle.image.specs.Image.{image_inputs, image_gates, image_outputs, middle, record_count, record_table, record_pins, output_at}

@@ -1,7 +1,7 @@
 -- What is written from an area holds the area's netlist, each chance as whole units. Assumes nothing.
 use Prim.Native.Nat.{ℕ, zero, suc, ◌+◌, ◌≤◌, ◌<◌}
 use mathlib.Core.List.{List, ◌∷◌, map}
-use mathlib.Core.Path.{◌≡◌, refl, sym, ap, ap₂, ◌∙◌}
+use mathlib.Core.Path.{◌≡◌, refl, sym, ap₂, ◌∙◌}
 use native.Mathlib.Nat.{div-eq_of_eq-mul_left}
 use native.Mathlib.Omega.{arith}
 use lib.ListN.{get_or}

@@ -6,7 +6,7 @@ use native.Mathlib.Omega.{arith}
 use lib.ListN.{length, get_or, drop, length-append, length-drop}
 use lib.Seq.{get_or-append-add, get_or-drop, ext_get_or}
 use Rattle.lists.proofs.Joined.{length-listed, listed_at}
-use Rattle.area.specs.Layout.{gates, outputs, pattern, output_words, needed}
+use Rattle.area.specs.Layout.{outputs, pattern, output_words, needed}
 use Rattle.area.specs.Rules.{Workable, Sound}
 use Rattle.area.specs.Sum.{with_sum}
 use Rattle.area.proofs.Words.{output-at, output_count}

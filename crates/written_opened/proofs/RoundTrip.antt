@@ -7,7 +7,7 @@ use lib.ListN.{length, get_or, take, drop, set, length-append, length-take, leng
 use lib.Pow.{pow_pos}
 use lib.Seq.{get_or-append-add, get_or-take, get_or-drop, get_or-set_same, get_or-set_other}
 use Rattle.rules.proofs.Sound.{sound, sound-passes}
-use Rattle.area.specs.Layout.{inputs, gates, outputs, pattern_index, pattern, flip_index, flip, needed}
+use Rattle.area.specs.Layout.{inputs, gates, pattern_index, pattern, flip_index, flip}
 use Rattle.area.specs.Net.{net_of}
 use Rattle.area.specs.Rules.{NetSound, Sound}
 use Rattle.area.proofs.Net.{same-net}

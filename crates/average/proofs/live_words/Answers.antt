@@ -1,8 +1,8 @@
 -- `average::live_words` meets its contract: the words of the live gates before the one reached are there. Assumes nothing.
-use Prim.Native.Nat.{◌+◌, ◌-◌, ◌≤◌, ◌<◌}
+use Prim.Native.Nat.{◌+◌, ◌≤◌, ◌<◌}
 use mathlib.Core.Path.{◌≡◌}
 use native.Mathlib.Omega.{arith}
-use Rattle.area.specs.Layout.{inputs, gates}
+use Rattle.area.specs.Layout.{gates}
 use Rattle.signals.proofs.Held.{first-held}
 use Rattle.average.proofs.BlockWords.{words-next, words-live}
 use Rattle.average.proofs.live_words.Goals.{In-loop-gate}

@@ -1,12 +1,12 @@
 -- `average::reliability_row` meets its contract: what is left of the outputs takes each product to its end. Assumes nothing.
-use Prim.Native.Nat.{ℕ, ◌*◌, ◌-◌, ◌/◌, ◌≤◌, ◌<◌}
+use Prim.Native.Nat.{ℕ, ◌*◌, ◌/◌, ◌≤◌, ◌<◌}
 use mathlib.Core.List.{List}
 use mathlib.Core.Path.{◌≡◌, sym, ap, subst, ◌∙◌}
 use native.Mathlib.Omega.{arith}
 use lib.ListN.{length, get_or, drop_of_length-le, replicate, get_or-replicate}
 use Rattle.area.proofs.Words.{output-at, output_count, output-below, few-sources}
 use Rattle.area.specs.Figures.{product_from}
-use Rattle.area.specs.Layout.{outputs, output, output_words}
+use Rattle.area.specs.Layout.{outputs, output_words}
 use Rattle.figure.proofs.Laws.{output-at-most}
 use Rattle.figure.specs.Figure.{output_step, failure_of}
 use Rattle.rounding.specs.Rounding.{units_in_one}

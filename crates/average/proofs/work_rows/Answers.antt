@@ -1,12 +1,12 @@
 -- `average::work_rows` meets its contract: the rows of the live gates before the one reached are there, and those from it on are held. Assumes nothing.
-use Prim.Native.Nat.{ℕ, ◌+◌, ◌-◌, ◌*◌, ◌≤◌, ◌<◌}
+use Prim.Native.Nat.{ℕ, ◌+◌, ◌*◌, ◌<◌}
 use mathlib.Core.List.{List}
 use mathlib.Core.Path.{◌≡◌, refl, sym, ap, ◌∙◌}
 use native.Mathlib.Omega.{arith}
 use borrow.Author.Tests.{eqb-true}
 use lib.ListN.{get_or}
 use Rattle.area.specs.Layout.{most_sources, inputs, gates}
-use Rattle.plan.specs.Plan.{IsLive, LiveFrom}
+use Rattle.plan.specs.Plan.{LiveFrom}
 use Rattle.rows.specs.Rows.{row_length}
 use Rattle.average.specs.Blocks.{RowsKept, Block, HeldFrom}
 use Rattle.average.proofs.BlockWords.{block_held, block-ready, block-right, block-live, block-next, kept-live, held-live}

@@ -1,12 +1,8 @@
 -- `comparison::count_patterns` meets its contract: after q turns the first q patterns are counted. Assumes nothing.
-use Prim.Native.Nat.{ℕ, ◌-◌}
-use mathlib.Core.List.{List}
 use mathlib.Core.Path.{◌≡◌, refl, ap, ◌∙◌}
 use native.Mathlib.Omega.{arith}
-use lib.ListN.{get_or}
-use Rattle.comparison.specs.declared.Verdict.{Verdict}
 use Rattle.comparison.specs.declared.Verdict.TheVariants.{First, Second, Undecided}
-use Rattle.comparison.specs.Standing.{verdict, how_often, same_verdict}
+use Rattle.comparison.specs.Standing.{how_often, same_verdict}
 use Rattle.comparison.proofs.Deciding.{counts-are, one-counted, at_most_one}
 use Rattle.comparison.proofs.count_patterns.Invariants.{verdict_at}
 use Rattle.comparison.proofs.count_patterns.Goals as goal

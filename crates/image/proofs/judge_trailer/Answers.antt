@@ -1,6 +1,6 @@
 -- `image::judge_trailer` meets its contract: the first test that fails decides. Assumes nothing.
 use mathlib.Core.Path.{◌≡◌, sym, ◌∙◌}
-use borrow.Author.Tests.{lt-leb, eq-eqb, ne_eqb, not-true, not-false}
+use borrow.Author.Tests.{lt-leb, eq-eqb, ne_eqb}
 use Rattle.area.specs.Rules.{counts_in_range}
 use Rattle.refusal.specs.Judgement.{refuse_unless, otherwise}
 use Rattle.image.specs.Image.{known_format, image_inputs, image_gates, image_outputs, image_format}

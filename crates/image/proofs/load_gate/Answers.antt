@@ -2,7 +2,6 @@
 use Prim.Native.Nat.{◌+◌}
 use mathlib.Core.Path.{◌≡◌, sym, ap₂, ◌∙◌}
 use lib.Seq.{sets}
-use borrow.Author.Tests.{not-true, not-false}
 use Rattle.chance.specs.declared.FlipUnits.TheVariants.{Units, AboveHalf, Refused as NoUnits}
 use Rattle.chance.specs.Flip.{read_units}
 use Rattle.area.specs.Rules.{gate_shape, used_below}

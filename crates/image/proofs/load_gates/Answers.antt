@@ -1,5 +1,4 @@
 -- `image::load_gates` meets its contract. Assumes nothing.
-use Prim.Native.Nat.{◌-◌}
 use native.Mathlib.Omega.{arith}
 use Rattle.area.specs.Layout.{gate_index}
 use Rattle.image.proofs.Passed.{starts, goes_on, stops, ends}

@@ -1,5 +1,5 @@
 -- `image::load_outputs` meets its contract. Assumes nothing.
-use Prim.Native.Nat.{◌+◌, ◌-◌}
+use Prim.Native.Nat.{◌+◌}
 use native.Mathlib.Omega.{arith}
 use Rattle.area.specs.Layout.{outputs_index}
 use Rattle.image.proofs.Passed.{starts, goes_on, stops, ends}

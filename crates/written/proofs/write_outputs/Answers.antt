@@ -1,16 +1,14 @@
 -- `written::write_outputs` meets its contract: after k turns the first k words are stored. Assumes nothing.
-use Prim.Native.Nat.{ℕ, ◌+◌, ◌-◌, ◌*◌}
+use Prim.Native.Nat.{◌+◌, ◌*◌}
 use mathlib.Core.Path.{◌≡◌, refl, ap, ◌∙◌}
-use mathlib.Core.List.{List}
 use native.Mathlib.Omega.{arith}
 use lib.ListN.{length}
 use lib.Seq.{length-sets}
 use Rattle.lists.specs.Lists.{joined}
 use Rattle.lists.proofs.Joined.{length-joined, joined-turn}
-use Rattle.area.specs.Layout.{gates, output}
+use Rattle.area.specs.Layout.{gates}
 use Rattle.area.proofs.Words.{output-source}
 use Rattle.image.specs.Image.{record_bytes, output_bytes, middle_bytes}
-use Rattle.records.specs.Bytes.{two_bytes}
 use Rattle.written.proofs.write_outputs.Invariants.{word}
 use Rattle.written.proofs.write_outputs.Goals as goal
 
