@@ -143,7 +143,7 @@ extern "C" {
 #endif
 
 /* Raised with every change to a function, a number, a layout or a figure that this file speaks of. */
-#define BENCH_VERSION 9
+#define BENCH_VERSION 8
 
 #define BENCH_ONE UINT32_C(1073741824)
 #define BENCH_FLIP_MAX UINT32_C(536870912)

@@ -22,25 +22,25 @@ use netlist::Method;
 use refusal::Judgement;
 
 // The answers: what a call has done, or why it has done nothing, by number and place.
-#[derive(Drop)]
+#[derive(Clone, Copy)]
 pub enum Opened {
     Done(u32),
     Refused(u8, u32),
 }
 
-#[derive(Drop)]
+#[derive(Clone, Copy)]
 pub enum Toggled {
     Done,
     Refused(u8, u32),
 }
 
-#[derive(Drop)]
+#[derive(Clone, Copy)]
 pub enum FlipSet {
     Done,
     Refused(u8, u32),
 }
 
-#[derive(Drop)]
+#[derive(Clone, Copy)]
 pub enum NetlistRead {
     Done {
         pattern: u32,
@@ -50,25 +50,25 @@ pub enum NetlistRead {
     Refused(u8, u32),
 }
 
-#[derive(Drop)]
+#[derive(Clone, Copy)]
 pub enum Averaged {
     Done(u32),
     Refused(u8, u32),
 }
 
-#[derive(Drop)]
+#[derive(Clone, Copy)]
 pub enum GateRead {
     Done { right: u32, failure: u32 },
     Refused(u8, u32),
 }
 
-#[derive(Drop)]
+#[derive(Clone, Copy)]
 pub enum Counted {
     Done,
     Refused(u8, u32),
 }
 
-#[derive(Drop)]
+#[derive(Clone, Copy)]
 pub enum ImageWritten {
     Done(u32),
     Refused(u8, u32),

@@ -15,7 +15,7 @@ ghost use Rattle.blif.specs.Answer.{blif_read};
 use refusal::Judgement;
 
 // Done with the image's length in bytes, or refused with number and place.
-#[derive(Drop)]
+#[derive(Clone, Copy)]
 pub enum BlifRead {
     Done(u32),
     Refused(u8, u32),

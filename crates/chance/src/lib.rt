@@ -9,27 +9,27 @@ ghost use Rattle.chance.specs.Number.{chance_scale, whole_chance, at_most_half, 
 ghost use Rattle.chance.specs.Flip.{four_bytes, first_half, second_half, whole_field, plain_of, strike_of, in_range, chance_of, read_if, read_flip, read_units};
 
 // A strike flips its gate only if it falls into the latching window: its chance is the product of both.
-#[derive(Drop)]
+#[derive(Clone, Copy)]
 pub struct Strike {
     pub chance: f32,
     pub window: f32,
 }
 
 // What a flip field says.
-#[derive(Drop)]
+#[derive(Clone, Copy)]
 pub enum Flip {
     Never,
     Plain(f64),
     Strike(Strike),
 }
 
-#[derive(Drop)]
+#[derive(Clone, Copy)]
 pub enum FlipRead {
     Accepted(Flip),
     Refused,
 }
 
-#[derive(Drop)]
+#[derive(Clone, Copy)]
 pub enum FlipUnits {
     Units(u32),
     AboveHalf,

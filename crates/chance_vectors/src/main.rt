@@ -10,7 +10,7 @@ use std::io::{self, Read};
 // No run has as many vectors: a loop must be seen to end.
 const MOST: u64 = 1_000_000;
 
-#[derive(Drop)]
+#[derive(Clone, Copy)]
 enum Vector {
     Agrees,
     Differs,
@@ -18,7 +18,7 @@ enum Vector {
 }
 
 // All vectors up to the end agree, or the one with this number, counted from 0, differs.
-#[derive(Drop)]
+#[derive(Clone, Copy)]
 enum Tally {
     Agree(u64),
     Differs(u64),

@@ -30,7 +30,7 @@ pub struct Module {
 }
 
 // Which one is higher.
-#[derive(Drop)]
+#[derive(Clone, Copy)]
 pub enum Verdict {
     First,
     Second,
@@ -46,33 +46,33 @@ pub struct Counts {
 }
 
 // Modules with unlike inputs have no patterns in common.
-#[derive(Drop)]
+#[derive(Clone, Copy)]
 pub enum Patterns {
     Counted(Counts),
     Unlike,
 }
 
 // One of the two images.
-#[derive(Drop)]
+#[derive(Clone, Copy)]
 pub enum Image {
     First,
     Second,
 }
 
 // The answers: done with its results, or refused with number and place, and with the image where there are two.
-#[derive(Drop)]
+#[derive(Clone, Copy)]
 pub enum ErrorRead {
     Done { halves: u32, live: u32 },
     Refused(u8, u32),
 }
 
-#[derive(Drop)]
+#[derive(Clone, Copy)]
 pub enum ModuleRead {
     Done(Module),
     Refused(u8, u32),
 }
 
-#[derive(Drop)]
+#[derive(Clone, Copy)]
 pub enum Compared {
     Done(Verdict, Module, Module, Patterns),
     Refused(Image, u8, u32),

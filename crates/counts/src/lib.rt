@@ -134,7 +134,7 @@ fn difference(
 }
 
 // A gate's flip that is being followed: the gates from `gate` on and before `stop` are still to be looked at.
-#[derive(Drop)]
+#[derive(Clone, Copy)]
 struct Window {
     flipped: usize,
     gate: usize,

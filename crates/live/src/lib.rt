@@ -51,7 +51,7 @@ fn add_gate(readers: &mut [u32; area::MOST_SOURCES], area: &[u32], gate: usize) 
 }
 
 // The live readers of every source, and the raw flip sum.
-#[derive(Drop)]
+#[derive(Clone, Copy)]
 pub struct LiveCounts {
     pub readers: [u32; area::MOST_SOURCES],
     pub sum: u64,

@@ -14,7 +14,7 @@ use refusal::Judgement;
 const MOST_SHARED: usize = 8;
 
 // The answer: done with the units, or refused with number and place.
-#[derive(Drop)]
+#[derive(Clone, Copy)]
 pub enum SharedRead {
     Done(u32),
     Refused(u8, u32),

@@ -10,7 +10,7 @@ ghost use Rattle.names.specs.Names.{is_name};
 
 use refusal::Judgement;
 
-#[derive(Drop)]
+#[derive(Clone, Copy)]
 pub enum Keyword {
     Model,
     Inputs,

@@ -177,7 +177,7 @@ pub fn word_end(text: &[u8], start: usize) -> usize
 }
 
 // How many words a text has, and the number of its last line.
-#[derive(Drop)]
+#[derive(Clone, Copy)]
 pub struct Found {
     pub count: usize,
     pub last: u32,

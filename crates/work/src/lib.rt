@@ -27,7 +27,7 @@ fn source_word(area: &[u32], source: usize) -> u32
 }
 
 // A gate's pins as the fold takes them. A pin whose source cannot fail only moves the index that the others start from; those have words and bits.
-#[derive(Drop)]
+#[derive(Clone, Copy)]
 struct Pins {
     start: u32,
     kept: usize,
