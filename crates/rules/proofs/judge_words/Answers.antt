@@ -10,13 +10,10 @@ use Rattle.area.specs.Rules.{counts_in_range, rest_sound, words_judgement}
 use Rattle.refusal.specs.Judgement.{refuse_unless}
 use Rattle.rules.proofs.Facts.{counts_hold}
 use Rattle.rules.proofs.Parts.{yes, no, none, last-refused, next, refused}
-use Rattle.rules.proofs.judge_words.Goals.{After-counts_in_range, After-needed, Else-area-needed, Else-not-counts_in_range, Start}
+use Rattle.rules.proofs.judge_words.Goals.{After-counts_in_range, After-needed, Else-area-needed, Else-not-counts_in_range}
 use Rattle.rules.proofs.judge_words.Goals as goal
 
 -- the area's words, and the test of their counts
-abbrev words : Start → List ℕ
-words s = s.args.area.now
-
 abbrev Counts : List ℕ → Bool
 Counts ws = counts_in_range (inputs ws) (gates ws) (outputs ws)
 
@@ -24,13 +21,13 @@ abbrev Needed : List ℕ → ℕ
 Needed ws = needed (gates ws) (outputs ws)
 
 -- what the calls say of them
-counted : (c : After-counts_in_range) → c.counts_in_range.result ≡ Counts (words c.before.before.before.before.before.before.before)
+counted : (c : After-counts_in_range) → c.counts_in_range.result ≡ Counts c.args.area.now
 counted c = rw (c.inputs.ensures, c.gates-gates.ensures, c.outputs-outputs.ensures) at c.counts_in_range.ensures
 
-in-range : (c : Else-not-counts_in_range) → Counts (words c.before.before.before.before.before.before.before.before) ≡ true
+in-range : (c : Else-not-counts_in_range) → Counts c.args.area.now ≡ true
 in-range c = yes (counted (record { before = c.before.before; type_inv = record { area = c.shared_slice_known-1.given } })) c.if-not-counts_in_range.false
 
-room-is : (c : After-needed) → c.needed.result ≡ Needed (words c.before.before.before.before.before.before.before.before.before)
+room-is : (c : After-needed) → c.needed.result ≡ Needed c.args.area.now
 room-is c =
     rw (c.gates-gates.ensures, c.outputs-outputs.ensures) at c.needed.ensures
 
@@ -38,7 +35,7 @@ room-is c =
 abbrev Past : List ℕ → Type 0
 Past ws = words_judgement ws ≡ refuse_unless (rest_sound ws) 14 0
 
-past_room : (c : Else-area-needed) → Past (words c.before.before.before.before.before.before.before.before.before.before)
+past_room : (c : Else-area-needed) → Past c.args.area.now
 unfolding words_judgement
 past_room c =
     let head = next 13 0 _ (le-leb _ _ c.if-area-lt-HEAD_WORDS.false) in
