@@ -13,7 +13,7 @@ use Rattle.rules.proofs.Parts.{yes, no, none, last-refused, next, refused}
 use Rattle.rules.proofs.judge_words.Goals.{After-counts_in_range, After-needed, Else-area-needed, Else-not-counts_in_range}
 use Rattle.rules.proofs.judge_words.Goals as goal
 
--- the area's words, and the test of their counts
+-- the test of the counts that words hold
 abbrev Counts : List ℕ → Bool
 Counts ws = counts_in_range (inputs ws) (gates ws) (outputs ws)
 
