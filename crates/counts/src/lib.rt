@@ -8,7 +8,7 @@ ghost use Rattle.netlist.specs.declared.Method.TheVariants.{Flip, Mask};
 ghost use Rattle.area.specs.Layout as layout;
 ghost use Rattle.area.specs.Rules.{NetSound};
 ghost use Rattle.area.specs.Net.{net_of};
-ghost use Rattle.signals.specs.Signals.{lane_count, InEachLane};
+ghost use Rattle.signals.specs.Signals.{lane_count, InEachLane, right_in, WordsHold};
 ghost use Rattle.counts.specs.Counts.{Entered, Reads, right_answer, changed_answer, Unchanged, Worked};
 ghost use Rattle.counts.specs.Counts.{Flipped, Following, some_changed, SeenIn, OutputMasks, MaskPassed, Zeroed, CountsReady, CountsAdded};
 
@@ -326,13 +326,15 @@ fn count_mask(
     pass_mask(masks, area, words, gate, mask);
 }
 
-// What is counted of a block of at most 64 patterns by the flip: each gate flips by itself.
-fn add_flips(counts: &mut [u32], area: &[u32], patterns: &[u32])
+// Each gate flips by itself. Not inlined, so that the three arrays of 8 KB here are not on the stack while the right words are worked out.
+#[inline(never)]
+fn flip_gates(counts: &mut [u32], area: &[u32], words: &[u64; area::MOST_SOURCES], patterns: &[u32])
     requires net_sound { NetSound area.now × (length patterns.now ≤ lane_count) }
+    requires words_hold { WordsHold (layout.inputs area.now + layout.gates area.now)
+        (right_in (net_of area.now [] []) patterns.now) words.now }
     requires counts_ready { CountsReady (layout.gates area.now) counts.old }
     ensures { CountsAdded Flip (net_of area.now [] []) patterns.now counts.old counts.new }
 {
-    let words = signals::right_words(area, patterns);
     let mut first = [area::MOST_GATES; area::MOST_SOURCES];
     let mut end = [0usize; area::MOST_SOURCES];
     enter_gates(&mut first, &mut end, area);
@@ -341,25 +343,55 @@ fn add_flips(counts: &mut [u32], area: &[u32], patterns: &[u32])
     let gates = area::gates(area);
     let mut gate = 0;
     while gate < gates {
-        let seen = flip_lanes(&mut changed, area, &words, &first, &end, gate, by);
+        let seen = flip_lanes(&mut changed, area, words, &first, &end, gate, by);
         add_ones(counts, gate, seen);
         gate += 1;
     }
 }
 
-// And by masks, from the last gate to the first: a gate's mask is whole once all later gates have passed theirs.
+// What is counted of a block of at most 64 patterns by the flip.
+fn add_flips(counts: &mut [u32], area: &[u32], patterns: &[u32])
+    requires net_sound { NetSound area.now × (length patterns.now ≤ lane_count) }
+    requires counts_ready { CountsReady (layout.gates area.now) counts.old }
+    ensures { CountsAdded Flip (net_of area.now [] []) patterns.now counts.old counts.new }
+{
+    flip_gates(
+        counts,
+        area,
+        &signals::right_words(area, patterns),
+        patterns,
+    );
+}
+
+// From the last gate to the first: a gate's mask is whole once all later gates have passed theirs. Not inlined for the same reason.
+#[inline(never)]
+fn mask_gates(counts: &mut [u32], area: &[u32], words: &[u64; area::MOST_SOURCES], patterns: &[u32])
+    requires net_sound { NetSound area.now × (length patterns.now ≤ lane_count) }
+    requires words_hold { WordsHold (layout.inputs area.now + layout.gates area.now)
+        (right_in (net_of area.now [] []) patterns.now) words.now }
+    requires counts_ready { CountsReady (layout.gates area.now) counts.old }
+    ensures { CountsAdded Mask (net_of area.now [] []) patterns.now counts.old counts.new }
+{
+    let mut masks = output_masks(area, listed_lanes(patterns.len()));
+    let mut gate = area::gates(area);
+    while 0 < gate {
+        gate -= 1;
+        count_mask(counts, &mut masks, area, words, gate);
+    }
+}
+
+// What is counted of it by masks.
 fn add_masks(counts: &mut [u32], area: &[u32], patterns: &[u32])
     requires net_sound { NetSound area.now × (length patterns.now ≤ lane_count) }
     requires counts_ready { CountsReady (layout.gates area.now) counts.old }
     ensures { CountsAdded Mask (net_of area.now [] []) patterns.now counts.old counts.new }
 {
-    let words = signals::right_words(area, patterns);
-    let mut masks = output_masks(area, listed_lanes(patterns.len()));
-    let mut gate = area::gates(area);
-    while 0 < gate {
-        gate -= 1;
-        count_mask(counts, &mut masks, area, &words, gate);
-    }
+    mask_gates(
+        counts,
+        area,
+        &signals::right_words(area, patterns),
+        patterns,
+    );
 }
 
 fn add_block(counts: &mut [u32], area: &[u32], patterns: &[u32], method: Method)

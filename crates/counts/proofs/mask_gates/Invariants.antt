@@ -5,7 +5,7 @@ use Rattle.area.specs.Layout as layout
 use Rattle.area.specs.Net.{net_of}
 use Rattle.counts.specs.Counts.{MasksFrom}
 use Rattle.counts.proofs.Added.{CountedIn}
-use Rattle.counts.proofs.add_masks.Given as goal
+use Rattle.counts.proofs.mask_gates.Given as goal
 
 abbrev pub invariant-loop-gate : goal.invariant-loop-gate
 invariant-loop-gate l =

@@ -4,7 +4,7 @@ use Rattle.netlist.specs.declared.Method.TheVariants.{Flip}
 use Rattle.area.specs.Net.{net_of}
 use Rattle.counts.specs.Counts.{Unchanged}
 use Rattle.counts.proofs.Added.{CountedIn}
-use Rattle.counts.proofs.add_flips.Given as goal
+use Rattle.counts.proofs.flip_gates.Given as goal
 
 abbrev pub invariant-loop-gate : goal.invariant-loop-gate
 invariant-loop-gate l =
