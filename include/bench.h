@@ -129,7 +129,7 @@
  *
  * bench_compare takes up to 264 KB of stack, bench_average 180 KB, bench_read_blif 96 KB,
  * bench_error_of_image 74 KB, bench_shared_reliability 54 KB, bench_open 46 KB, bench_counts_by_flip and
- * bench_counts_by_mask 42 KB, the other calls less. No call allocates memory, and calls that name no area
+ * bench_counts_by_mask 36 KB, the other calls less. No call allocates memory, and calls that name no area
  * or slice in common may run at the same time.
  */
 #ifndef BENCH_H
