@@ -216,7 +216,8 @@ pub fn block_patterns(inputs: usize, first: usize) -> [u32; signals::LANES]
     patterns
 }
 
-// The right values of the inputs and of the live gates under 64 patterns.
+// The right values of the inputs and of the live gates under 64 patterns. Not inlined: its array is on the stack only while it works.
+#[inline(never)]
 pub fn live_words(
     area: &[u32],
     next: &[usize; area::MOST_SOURCES],
@@ -226,7 +227,8 @@ pub fn live_words(
     ensures { LiveWords area.now patterns.now result (layout.gates area.now) }
 {
     let count = area::gates(area);
-    let mut words = signals::input_words(patterns, area::inputs(area));
+    let mut words = [0u64; area::MOST_SOURCES];
+    signals::write_inputs(&mut words, patterns, area::inputs(area));
     let mut gate = next[0];
     while gate < count {
         signals::work_word(&mut words, area, gate);
@@ -235,7 +237,32 @@ pub fn live_words(
     words
 }
 
-// What the 64 patterns from `first` on add to the weighted sum: right values for all of them in one word, failures in two rows.
+// What two rows add, one after the other, from the same words.
+fn both_rows(
+    rows: &mut [u32; rows::ROW_WORDS],
+    held: &mut usize,
+    words: &[u64; area::MOST_SOURCES],
+    area: &[u32],
+    next: &[usize; area::MOST_SOURCES],
+    unseen: &[usize; area::MOST_SOURCES],
+    number: usize,
+    weights: &[u32],
+) -> u64
+    requires workable { Workable area.now × NextLive area.now next.now 0 × Unseen area.now unseen.now (layout.gates area.now) }
+    requires values_from { ValuesFrom area.now words.now (row_length * number) × ValuesFrom area.now words.now (row_length * (number + 1)) }
+    requires number_inside { number < row_count }
+    requires rows_kept { RowsKept area.now rows.old × RowsHeld area.now unseen.now rows.old held.old }
+    requires weights_fit { WeightsFit (layout.inputs area.now) weights.now }
+    ensures block_adds { BlockAdds area.now weights.now (row_length * number) lane_count result }
+    ensures rows_kept_2 { RowsKept area.now rows.new
+        × RowsHeld area.now unseen.now rows.new held.new }
+{
+    let lower = weighted_row(rows, held, words, area, next, unseen, number, weights);
+    lower + weighted_row(rows, held, words, area, next, unseen, number + 1, weights)
+}
+
+// What the 64 patterns from `first` on add to the weighted sum: right values for all of them in one word, failures in two rows. The words are lent where
+// they are made, since an array that a `let` takes from a call has two places on the stack.
 fn weighted_block(
     rows: &mut [u32; rows::ROW_WORDS],
     held: &mut usize,
@@ -257,29 +284,54 @@ fn weighted_block(
         return 0;
     }
     let patterns = block_patterns(area::inputs(area), first);
-    let words = live_words(area, next, &patterns);
-    let number = first / rows::LANES;
-    let lower = weighted_row(rows, held, &words, area, next, unseen, number, weights);
-    lower + weighted_row(rows, held, &words, area, next, unseen, number + 1, weights)
+    both_rows(
+        rows,
+        held,
+        &live_words(area, next, &patterns),
+        area,
+        next,
+        unseen,
+        first / rows::LANES,
+        weights,
+    )
 }
 
-// The weighted sum over all patterns, block by block. The area is only read: its words of figures may be those of another pattern.
-fn weighted_sum(area: &[u32], weights: &[u32]) -> u64
-    requires workable { Workable area.now }
+// The weighted sum over all patterns, block by block. Not inlined: its rows are not on the stack while `plan::next_live` works.
+#[inline(never)]
+fn weighted_blocks(
+    area: &[u32],
+    next: &[usize; area::MOST_SOURCES],
+    unseen: &[usize; area::MOST_SOURCES],
+    weights: &[u32],
+) -> u64
+    requires workable { Workable area.now × NextLive area.now next.now 0 × Unseen area.now unseen.now (layout.gates area.now) }
     requires weights_fit { WeightsFit (layout.inputs area.now) weights.now }
     ensures { result ≡ weighted_to area.now weights.now (length weights.now) }
 {
-    let next = plan::next_live(area);
-    let unseen = plan::unseen_bits(area);
     let mut rows = [0u32; rows::ROW_WORDS];
     let mut held = NO_ROW;
     let mut sum = 0;
     let mut first = 0;
     while first < weights.len() {
-        sum += weighted_block(&mut rows, &mut held, area, &next, &unseen, first, weights);
+        sum += weighted_block(&mut rows, &mut held, area, next, unseen, first, weights);
         first += signals::LANES;
     }
     sum
+}
+
+// The weighted sum over all patterns. The area is only read: its words of figures may be those of another pattern. Both arrays are lent where they are
+// made, each in one place on the stack.
+fn weighted_sum(area: &[u32], weights: &[u32]) -> u64
+    requires workable { Workable area.now }
+    requires weights_fit { WeightsFit (layout.inputs area.now) weights.now }
+    ensures { result ≡ weighted_to area.now weights.now (length weights.now) }
+{
+    weighted_blocks(
+        area,
+        &plan::next_live(area),
+        &plan::unseen_bits(area),
+        weights,
+    )
 }
 
 // The weighted average of the reliability over all patterns; the area's figures are worked out afresh for its own pattern.

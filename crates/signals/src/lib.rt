@@ -114,17 +114,25 @@ fn input_word(patterns: &[u32], input: usize) -> u64
     word
 }
 
+// The words of all inputs, written into an array that is lent.
+pub fn write_inputs(words: &mut [u64; area::MOST_SOURCES], patterns: &[u32], inputs: usize)
+    requires { (length patterns.now ≤ lane_count) × (inputs ≤ layout.most_inputs) × (length words.old ≡ layout.most_sources) }
+    ensures { InputWords inputs patterns.now words.new }
+{
+    let mut input = 0;
+    while input < inputs {
+        words[input] = input_word(patterns, input);
+        input += 1;
+    }
+}
+
 // The words of all inputs.
 pub fn input_words(patterns: &[u32], inputs: usize) -> [u64; area::MOST_SOURCES]
     requires { (length patterns.now ≤ lane_count) × (inputs ≤ layout.most_inputs) }
     ensures { InputWords inputs patterns.now result }
 {
     let mut words = [0u64; area::MOST_SOURCES];
-    let mut input = 0;
-    while input < inputs {
-        words[input] = input_word(patterns, input);
-        input += 1;
-    }
+    write_inputs(&mut words, patterns, inputs);
     words
 }
 

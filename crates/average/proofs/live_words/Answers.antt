@@ -1,6 +1,6 @@
 -- `average::live_words` meets its contract: the words of the live gates before the one reached are there. Assumes nothing.
 use Prim.Native.Nat.{◌+◌, ◌≤◌, ◌<◌}
-use mathlib.Core.Path.{◌≡◌}
+use mathlib.Core.Path.{◌≡◌, refl}
 use native.Mathlib.Omega.{arith}
 use Rattle.area.specs.Layout.{gates}
 use Rattle.signals.proofs.Held.{first-held}
@@ -16,9 +16,9 @@ pub inputs-requires : goal.inputs-requires
 inputs-requires c =
     omega (arith, c.requires.0.long)
 
-pub input_words-words-requires : goal.input_words-words-requires
-input_words-words-requires c =
-    (c.requires.2, omega (arith, c.inputs.ensures, c.requires.0.inputs_fit))
+pub write_inputs-requires : goal.write_inputs-requires
+write_inputs-requires c =
+    (c.requires.2, omega (arith, c.inputs.ensures, c.requires.0.inputs_fit), refl)
 
 pub bounds-next-0 : goal.bounds-next-0
 bounds-next-0 c =
@@ -33,8 +33,8 @@ loop-gate-init c =
       found.live,
       words-next a.area.now a.patterns.now c.requires.0 _ 0 _ found
           (record {
-            input_words = first-held a.area.now a.patterns.now c.requires.0 c.input_words-words.result
-                (rw at-inputs.ensures at c.input_words-words.ensures);
+            input_words = first-held a.area.now a.patterns.now c.requires.0 c.write_inputs.new.words
+                (rw at-inputs.ensures at c.write_inputs.ensures);
             gate_words = λ j none live. absurd (omega arith);
           }),
     )

@@ -1,15 +1,14 @@
 -- `average::weighted_block` meets its contract. Assumes nothing.
-use Prim.Native.Nat.{ℕ, ◌+◌, ◌*◌, ◌/◌, ◌≤◌}
+use Prim.Native.Nat.{◌+◌, ◌*◌, ◌/◌, ◌≤◌}
 use mathlib.Core.Path.{◌≡◌, sym, ◌∙◌}
 use native.Mathlib.Omega.{arith}
 use lib.ListN.{length}
 use Rattle.area.specs.Layout.{most_patterns}
 use Rattle.rows.specs.Rows.{row_length}
 use Rattle.signals.specs.Signals.{lane_count}
-use Rattle.average.specs.WeightedSum.{BlockAdds}
 use Rattle.average.proofs.BlockWords.{values-from}
-use Rattle.average.proofs.WeightedSum.{few-weights, block-empty, both-add, weighted-limit}
-use Rattle.average.proofs.weighted_block.Goals.{After-weighted_row, Start}
+use Rattle.average.proofs.WeightedSum.{few-weights, block-empty}
+use Rattle.average.proofs.weighted_block.Goals.{Start}
 use Rattle.average.proofs.weighted_block.Goals as goal
 
 few : (s : Start) → length s.args.weights.now ≤ most_patterns
@@ -22,17 +21,6 @@ module _ (s : Start) where
 
   upper-start : row_length * (s.args.first / row_length + 1) ≡ s.args.first + row_length
   upper-start = omega (arith, s.requires.weights_fit.2)
-
--- both rows together
-module _ (c : After-weighted_row) where
-  abbrev lower : ℕ
-  lower = c.weighted_row-lower.result
-
-  both : BlockAdds c.args.area.now c.args.weights.now c.args.first lane_count (lower + c.weighted_row.result)
-  both =
-      both-add c.args.area.now c.args.weights.now c.args.first row_length row_length lower c.weighted_row.result
-      (rw (lower-start c.before.before.before.before.before.before.before.before.before.before.before.before.before.before.before.before.before.before.before) at c.weighted_row-lower.ensures.block_adds)
-      (rw (upper-start c.before.before.before.before.before.before.before.before.before.before.before.before.before.before.before.before.before.before.before) at c.weighted_row.ensures.block_adds)
 
 pub block_end-end-requires : goal.block_end-end-requires
 block_end-end-requires c =
@@ -52,39 +40,30 @@ pub block_patterns-patterns-requires : goal.block_patterns-patterns-requires
 block_patterns-patterns-requires c =
     (omega (arith, c.inputs.ensures, c.requires.workable.0.net.inputs_fit), omega (arith, few (goal.at.block_patterns-patterns-requires c).Start, c.requires.weights_fit.1))
 
-pub live_words-words-requires : goal.live_words-words-requires
-live_words-words-requires c =
+pub live_words-requires : goal.live_words-requires
+live_words-requires c =
     (c.requires.workable.0.net, c.requires.workable.1, omega (arith, c.block_patterns-patterns.ensures.result_len))
 
-pub weighted_row-lower-requires : goal.weighted_row-lower-requires
-weighted_row-lower-requires c =
-    let start = (goal.at.weighted_row-lower-requires c).Start in
+pub both_rows-requires : goal.both_rows-requires
+both_rows-requires c =
+    let start = (goal.at.both_rows-requires c).Start in
     let made = c.block_patterns-patterns in
-    let found = c.live_words-words in
+    let found = c.live_words in
     let a = c.args in
     let each = rw c.inputs.ensures at made.ensures.by_index in
-    let values = values-from a.area.now made.result c.requires.workable.0.net found.result a.first (row_length * (a.first / row_length)) c.requires.weights_fit.2
-    (omega (arith, lower-start start)) (omega (arith, lower-start start)) each found.ensures in record { workable = c.requires.workable; values_from = (values, omega (arith, few start, c.requires.weights_fit.1)); rows_kept = c.requires.rows_kept; weights_fit = c.requires.weights_fit.0 }
-
-pub overflow_add-number : goal.overflow_add-number
-overflow_add-number c =
-    omega (arith, few (goal.at.overflow_add-number c).Start, c.requires.weights_fit.1)
-
-pub weighted_row-requires : goal.weighted_row-requires
-weighted_row-requires c =
-    let start = (goal.at.weighted_row-requires c).Start in
-    let made = c.block_patterns-patterns in
-    let found = c.live_words-words in
-    let a = c.args in
-    let each = rw c.inputs.ensures at made.ensures.by_index in
-    let values = values-from a.area.now made.result c.requires.workable.0.net found.result a.first (row_length * (a.first / row_length + 1))
+    let lower = values-from a.area.now made.result c.requires.workable.0.net found.result a.first (row_length * (a.first / row_length)) c.requires.weights_fit.2
+    (omega (arith, lower-start start)) (omega (arith, lower-start start)) each found.ensures in
+    let upper = values-from a.area.now made.result c.requires.workable.0.net found.result a.first (row_length * (a.first / row_length + 1))
     c.requires.weights_fit.2
-    (omega (arith, upper-start start)) (omega (arith, upper-start start)) each found.ensures in record { workable = c.requires.workable; values_from = (values, omega (arith, few start, c.requires.weights_fit.1)); rows_kept = c.weighted_row-lower.ensures.rows_kept_2; weights_fit = c.requires.weights_fit.0 }
-
-pub overflow_add-result : goal.overflow_add-result
-overflow_add-result c =
-    let a = c.args in
-    omega (arith, both c, weighted-limit a.area.now a.weights.now c.requires.workable.0 c.requires.weights_fit.0 (a.first + lane_count))
+    (omega (arith, upper-start start)) (omega (arith, upper-start start)) each found.ensures in
+    record {
+      workable = c.requires.workable;
+      values_from = (lower, upper);
+      number_inside = omega (arith, few start, c.requires.weights_fit.1);
+      rows_kept = c.requires.rows_kept;
+      weights_fit = c.requires.weights_fit.0;
+    }
 
 pub returns : goal.returns
-returns c = record { block_adds = both c; rows_kept_2 = c.weighted_row.ensures.rows_kept_2 }
+returns c =
+    record { block_adds = rw (lower-start (goal.at.returns c).Start) at c.both_rows.ensures.block_adds; rows_kept_2 = c.both_rows.ensures.rows_kept_2 }

@@ -1,24 +1,9 @@
--- `signals::input_words` meets its contract: the inputs passed have their words. Assumes nothing.
-use mathlib.Core.Path.{◌≡◌, refl}
-use native.Mathlib.Omega.{arith}
-use Rattle.signals.proofs.Held.{input-more}
+-- `signals::input_words` meets its contract. Assumes nothing.
+use mathlib.Core.Path.{refl}
 use Rattle.signals.proofs.input_words.Goals as goal
 
-pub loop-input-init : goal.loop-input-init
-loop-input-init c = (omega arith, record { long = refl; input = λ l i h. absurd (omega arith) })
-
-pub input_word-requires : goal.input_word-requires
-input_word-requires c =
-    (c.requires.0, omega (arith, c.requires.1))
-
-pub loop-input-preserved : goal.loop-input-preserved
-loop-input-preserved c =
-    let l = c.loop-input in
-    let word = c.input_word in
-    (omega arith, input-more l.input c.args.patterns.now l.words word.result l.invariant.1 (omega (arith, c.requires.1)) word.ensures)
+pub write_inputs-requires : goal.write_inputs-requires
+write_inputs-requires c = (c.requires.0, c.requires.1, refl)
 
 pub returns : goal.returns
-returns c =
-    let l = c.loop-input in
-    let end : l.input ≡ c.args.inputs = omega arith in
-    rw end at l.invariant.1
+returns c = c.write_inputs.ensures

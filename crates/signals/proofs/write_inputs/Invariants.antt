@@ -1,6 +1,6 @@
 use Prim.Native.Nat.{◌-◌, ◌≤◌}
 use Rattle.signals.specs.Signals.{InputWords}
-use Rattle.signals.proofs.input_words.Given as goal
+use Rattle.signals.proofs.write_inputs.Given as goal
 
 abbrev pub invariant-loop-input : goal.invariant-loop-input
 invariant-loop-input l = (l.input ≤ l.inputs) × InputWords l.input l.patterns l.words

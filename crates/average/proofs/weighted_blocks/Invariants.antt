@@ -4,7 +4,7 @@ use lib.ListN.{length}
 use Rattle.signals.specs.Signals.{lane_count}
 use Rattle.average.specs.Blocks.{RowsKept, RowsHeld}
 use Rattle.average.specs.WeightedSum.{weighted_to}
-use Rattle.average.proofs.weighted_sum.Given as goal
+use Rattle.average.proofs.weighted_blocks.Given as goal
 
 abbrev pub invariant-loop-first : goal.invariant-loop-first
 invariant-loop-first l =
