@@ -8,6 +8,8 @@ proofs/F/Proof.antt of the crates that ends in `tie.close` is replaced. An answe
 the place of paths of `.before`; clauses are fields; an answer over several clauses is a record; a fact over a place gets it by `goal.at`. What is
 printed has to be looked at by hand: UPCAST a fact over a place that another one over a later place uses, SHADOW a bound variable named as one of the
 loop's, NEED, LOOP, PARAMS, CLAUSES, TIE what was not found; and every `.branch`, which is an `elim` today.
+
+It is here for the texts in wip/, which are in the older language, and goes with the last of them.
 """
 import json, os, re, sys, glob
 ID = "[\\w'₀-₉κμ][\\w'₀-₉κμ-]*"
