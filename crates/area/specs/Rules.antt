@@ -1,13 +1,14 @@
 -- Rules 5, 6, 8, 13 and 14 of document 01, on numbers and on the words of an area. Each is a test; the records at the end have what passes, in parts.
 use Rattle.std.specs.Prelude.{ℕ, ◌+◌, ◌^◌, ◌≤◌, ◌<◌, Bool, ◌&&◌, List, ◌≡◌, length, get_or, take, drop, leb, ltb, eqb}
 use Rattle.lists.specs.Lists.{all_zero, all_below, every_from}
-use Rattle.refusal.specs.declared.Judgement.{Judgement}
+use Rattle.refusal.specs.Judgement.{Judgement}
 use Rattle.refusal.specs.Judgement.{refuse_unless, otherwise}
 use Rattle.rounding.specs.Rounding.{units_in_one}
 use Rattle.area.specs.Layout.{most_pins, most_inputs, most_gates, most_outputs, largest_flip, largest_figure}
 use Rattle.area.specs.Layout.{head_words, inputs, gates, outputs, pattern, reliability_word, sum_low_word, sum_high_word, reserved_word}
 use Rattle.area.specs.Layout.{pin_count, table, pins, flip, figure, output_words, needed}
 use Rattle.area.specs.Sum.{flip_sum, low_bits, high_bits}
+use Rattle.refusal.specs.declared.Cause.TheVariants.{AreaTooShort, AreaRule}
 
 -- rule 5: at most four pins, no table bit at or above 2^a, every unused pin zero
 unfoldable pub gate_shape : ℕ → ℕ → List ℕ → Bool
@@ -43,18 +44,18 @@ sum_right ws = eqb (sum_low_word ws) (low_bits (flip_sum ws)) && (eqb (sum_high_
 
 -- 13 by counts: room for G gates and K outputs in an area of `size` words
 abbrev pub room_judgement : ℕ → ℕ → ℕ → Judgement
-room_judgement g k size = refuse_unless (leb (needed g k) size) 13 0
+room_judgement g k size = refuse_unless (leb (needed g k) size) AreaTooShort 0
 
 -- refusals 13 and 14 of an area in their order: fewer than 8 words, counts out of range, too short by its counts, the rest
 unfoldable pub words_judgement : List ℕ → Judgement
 words_judgement ws =
-    otherwise (refuse_unless (leb head_words (length ws)) 13 0)
-    (otherwise (refuse_unless (counts_in_range (inputs ws) (gates ws) (outputs ws)) 14 0)
-    (otherwise (room_judgement (gates ws) (outputs ws) (length ws)) (refuse_unless (rest_sound ws) 14 0)))
+    otherwise (refuse_unless (leb head_words (length ws)) AreaTooShort 0)
+    (otherwise (refuse_unless (counts_in_range (inputs ws) (gates ws) (outputs ws)) AreaRule 0)
+    (otherwise (room_judgement (gates ws) (outputs ws) (length ws)) (refuse_unless (rest_sound ws) AreaRule 0)))
 
 -- and the sum
 unfoldable pub area_judgement : List ℕ → Judgement
-area_judgement ws = otherwise (words_judgement ws) (refuse_unless (sum_right ws) 14 0)
+area_judgement ws = otherwise (words_judgement ws) (refuse_unless (sum_right ws) AreaRule 0)
 
 -- ---- what is known of an area that passes
 

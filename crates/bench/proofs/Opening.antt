@@ -4,7 +4,7 @@ use mathlib.Core.Path.{◌≡◌, refl, sym, ap, ◌∙◌, ap₂}
 use mathlib.Core.List.{List, [], ◌++◌}
 use lib.ListN.{take, drop}
 use lib.Seq.{take_at}
-use Rattle.refusal.specs.declared.Judgement.TheVariants.{Fine, Refused}
+use Rattle.refusal.specs.Judgement.{Fine, refused}
 use Rattle.refusal.specs.Judgement.{otherwise}
 use Rattle.refusal.proofs.Laws.{otherwise-first, otherwise-second}
 use Rattle.netlist.specs.Live.{live_gates}
@@ -28,6 +28,7 @@ use Rattle.calls.specs.Judgements.{open_judgement}
 use Rattle.calls.specs.Calls.{open_words, open_live}
 use Rattle.bench.specs.Loaded.{loaded_judgement, loaded_words}
 use Rattle.live.proofs.Shared.{shared_same}
+use Rattle.refusal.specs.declared.Cause.{Cause}
 
 -- the words ws that an accepted image bs was loaded into
 module _ (bs tail ws : List ℕ) (e : ws ≡ image_words bs ++ tail) where
@@ -66,6 +67,6 @@ module _ (bs tail ws : List ℕ) (e : ws ≡ image_words bs ++ tail) where
       ∙ ap flip_sum (sym e) in
       ap (stored_sum (work_all before)) sums ∙ rw (loaded-front, same_gates, same_outputs) refl
 
-pub open-refused : (bs : List ℕ) (number place size : ℕ) → image_refusal bs ≡ Refused number place → open_judgement bs size ≡ Refused number place
+pub open-refused : (bs : List ℕ) (number : Cause) (place size : ℕ) → image_refusal bs ≡ refused number place → open_judgement bs size ≡ refused number place
 unfolding open_judgement
 open-refused bs number place size e = otherwise-first (image_refusal bs) _ number place e

@@ -2,8 +2,8 @@
 use Rattle.std.specs.Prelude.{ℕ, ◌≡◌, Float, false}
 use Rattle.std.specs.Float.Ieee.Exact.{HasValue}
 use Rattle.rounding.specs.Rounding.{units_in_one}
-use Rattle.refusal.specs.declared.Judgement.{Judgement}
-use Rattle.refusal.specs.declared.Judgement.TheVariants.{Fine, Refused}
+use Rattle.refusal.specs.Judgement.{Judgement}
+use Rattle.refusal.specs.Judgement.{Fine, refused}
 use Rattle.bench.specs.declared.Opened.{Opened}
 use Rattle.bench.specs.declared.Opened.TheVariants.{Done as OpenDone, Refused as OpenRefused}
 use Rattle.bench.specs.declared.Toggled.{Toggled}
@@ -20,41 +20,42 @@ use Rattle.bench.specs.declared.Counted.{Counted}
 use Rattle.bench.specs.declared.Counted.TheVariants.{Done as CountDone, Refused as CountRefused}
 use Rattle.bench.specs.declared.ImageWritten.{ImageWritten}
 use Rattle.bench.specs.declared.ImageWritten.TheVariants.{Done as WriteDone, Refused as WriteRefused}
+use Rattle.std.specs.Prelude.{Err}
 
 -- the number of live gates
 abbrev pub opened : Judgement → ℕ → Opened
 opened Fine live = OpenDone live
-opened (Refused number place) live = OpenRefused number place
+opened (refused number place) live = OpenRefused number place
 
 abbrev pub toggled : Judgement → Toggled
 toggled Fine = ToggleDone
-toggled (Refused number place) = ToggleRefused number place
+toggled (Err why) = ToggleErr why
 
 abbrev pub flip_set : Judgement → FlipSet
 flip_set Fine = SetDone
-flip_set (Refused number place) = SetRefused number place
+flip_set (Err why) = SetErr why
 
 -- the average in units
 abbrev pub averaged : Judgement → ℕ → Averaged
 averaged Fine units = AverageDone units
-averaged (Refused number place) units = AverageRefused number place
+averaged (Err why) units = AverageErr why
 
 -- right value and failure
 abbrev pub gate_read : Judgement → ℕ → ℕ → GateRead
 gate_read Fine right failure = GateDone right failure
-gate_read (Refused number place) right failure = GateRefused number place
+gate_read (Err why) right failure = GateErr why
 
 -- the counts stand in the slice
 abbrev pub counted : Judgement → Counted
 counted Fine = CountDone
-counted (Refused number place) = CountRefused number place
+counted (Err why) = CountErr why
 
 -- the image's length
 abbrev pub image_written : Judgement → ℕ → ImageWritten
 image_written Fine long = WriteDone long
-image_written (Refused number place) long = WriteRefused number place
+image_written (Err why) long = WriteErr why
 
 -- pattern and units, with the f64 whose value is exactly units / U
 abbrev pub NetlistAnswer : Judgement → ℕ → ℕ → NetlistRead → Type 0
 NetlistAnswer Fine pattern units r = (x : Float) × (r ≡ NetlistDone pattern units x) × HasValue x false units units_in_one
-NetlistAnswer (Refused number place) pattern units r = r ≡ NetlistRefused number place
+NetlistAnswer (Err why) pattern units r = r ≡ NetlistErr why

@@ -1,6 +1,6 @@
 -- What opening does once an image is loaded into words: refusals 9 and 13, and the words left.
 use Rattle.std.specs.Prelude.{ℕ, List, [], ◌++◌, take, drop}
-use Rattle.refusal.specs.declared.Judgement.{Judgement}
+use Rattle.refusal.specs.Judgement.{Judgement}
 use Rattle.refusal.specs.Judgement.{otherwise}
 use Rattle.area.specs.Layout.{gates, outputs, needed}
 use Rattle.area.specs.Rules.{room_judgement}

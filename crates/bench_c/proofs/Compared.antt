@@ -3,8 +3,8 @@ use Prim.Native.Nat.{ℕ, ◌<◌}
 use mathlib.Core.List.{List}
 use mathlib.Core.Path.{◌≡◌, refl, sym, ap, ◌∙◌}
 use native.Mathlib.Omega.{arith}
-use Rattle.refusal.specs.declared.Judgement.{Judgement}
-use Rattle.refusal.specs.declared.Judgement.TheVariants.{Fine, Refused}
+use Rattle.refusal.specs.Judgement.{Judgement}
+use Rattle.refusal.specs.Judgement.{Fine, refused}
 use Rattle.calls.specs.Judgements.{image_judgement}
 use Rattle.calls.proofs.Judgements.{only-judged}
 use Rattle.comparison.specs.declared.Image.{Image}
@@ -15,12 +15,14 @@ use Rattle.comparison.specs.Images.{error_read, compared_if, compared}
 use Rattle.bench_c.specs.Codes.{code}
 use Rattle.bench_c.specs.Comparing.{image_number, compared_code}
 use Rattle.bench_c.proofs.Zero.{positive-code}
+use Rattle.refusal.specs.declared.Cause.{Cause}
+use Rattle.std.specs.Prelude.{Err}
 
 pub error-told : (j : Judgement) (v w : ℕ)
     → ((m n : ℕ) → error_read j v w ≡ ErrorDone m n → (j ≡ Fine) × (m ≡ v) × (n ≡ w))
-    × ((a p : ℕ) → error_read j v w ≡ ErrorRefused a p → j ≡ Refused a p)
+    × ((a : Cause) (p : ℕ) → error_read j v w ≡ ErrorRefused a p → j ≡ refused a p)
 error-told Fine v w = (λ m n e. (refl, cc, cc), λ a p e. cc)
-error-told (Refused b q) v w = (λ m n e. (cc, cc, cc), λ a p e. cc)
+error-told (Err why) v w = (λ m n e. (cc, cc, cc), λ a p e. cc)
 
 -- of every image
 pub zero-is-known : (bs : List ℕ) → code (image_judgement bs) ≡ 0 → image_judgement bs ≡ Fine
@@ -32,8 +34,8 @@ some-image Second = omega arith
 
 both-fine : (i j : Judgement) (answer : Compared) → compared_code (compared_if i j answer) ≡ 0 → (i ≡ Fine) × (j ≡ Fine)
 both-fine Fine Fine answer e = (refl, refl)
-both-fine Fine (Refused a p) answer e = absurd (omega (arith, some-image Second))
-both-fine (Refused a p) j answer e = absurd (omega (arith, some-image First))
+both-fine Fine (Err why) answer e = absurd (omega (arith, some-image Second))
+both-fine (Err why) j answer e = absurd (omega (arith, some-image First))
 
 -- of every two images
 pub zero-is-compared : (bs cs : List ℕ) → compared_code (compared bs cs) ≡ 0 → (image_judgement bs ≡ Fine) × (image_judgement cs ≡ Fine)

@@ -5,8 +5,8 @@ use mathlib.Core.Path.{◌≡◌, refl}
 use native.Mathlib.Omega.{arith}
 use lib.Dec.{leb}
 use lib.ListN.{length}
-use Rattle.refusal.specs.declared.Judgement.{Judgement}
-use Rattle.refusal.specs.declared.Judgement.TheVariants.{Fine, Refused}
+use Rattle.refusal.specs.Judgement.{Judgement}
+use Rattle.refusal.specs.Judgement.{Fine, refused}
 use Rattle.refusal.proofs.Laws.{Only, only-unless, only-otherwise}
 use Rattle.area.specs.Layout.{head_words, inputs, gates, outputs}
 use Rattle.area.specs.Rules.{counts_in_range, rest_sound, sum_right, words_judgement, area_judgement}
@@ -16,6 +16,7 @@ use Rattle.calls.proofs.Judgements.{only-room, only-arguments, only-open}
 use Rattle.blif.specs.Reading.{blif_refusal}
 use Rattle.blif.proofs.Numbers.{only-blif}
 use Rattle.bench_c.specs.Codes.{code}
+use Rattle.std.specs.Prelude.{Err}
 
 abbrev Positive : ℕ → Type 0
 Positive number = 0 < number
@@ -47,7 +48,7 @@ of-call ws (write_image room) = of-lent ws (write_image room)
 
 pub positive-code : (v : Judgement) → Only Positive v → code v ≡ 0 → v ≡ Fine
 positive-code Fine only e = refl
-positive-code (Refused number place) only e = absurd (omega (arith, only number place refl))
+positive-code (Err why) only e = absurd (omega (arith, only why.cause why.place refl))
 
 -- of every call on every area
 pub zero-is-done : (ws : List ℕ) (call : Call) → code (judgement ws call) ≡ 0 → judgement ws call ≡ Fine

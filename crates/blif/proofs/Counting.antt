@@ -8,8 +8,8 @@ use native.Mathlib.Omega.{arith}
 use lib.ListN.{length, get_or}
 use lib.Dec.{eqb, leb}
 use borrow.Author.Tests.{eqb-true, leb-true, leb-false, le-leb, lt-leb}
-use Rattle.refusal.specs.declared.Judgement.{Judgement}
-use Rattle.refusal.specs.declared.Judgement.TheVariants.{Fine, Refused}
+use Rattle.refusal.specs.Judgement.{Judgement}
+use Rattle.refusal.specs.Judgement.{Fine, refused}
 use Rattle.refusal.specs.Judgement.{otherwise}
 use Rattle.refusal.proofs.Laws.{unless-fine, refused-not-fine}
 use Rattle.texts.specs.Words.{Word, held, word_at}
@@ -23,13 +23,16 @@ use Rattle.resolve.specs.Names.{again_fault, unknown_fault, names_fault}
 use Rattle.blif.specs.Reading.{output_count, room_fault, lines_refusal, loops_fault}
 use Rattle.blif.specs.Stages.{Within, sources_fault, names_refusal}
 use Rattle.blif.proofs.Chain.{flat}
+use Rattle.refusal.specs.declared.Cause.{Cause}
+use Rattle.refusal.specs.declared.Cause.TheVariants.{TextModel}
+use Rattle.std.specs.Prelude.{Err}
 
 earlier-fine : (v w : Judgement) → earlier v w ≡ Fine → (v ≡ Fine) × (w ≡ Fine)
 earlier-fine Fine w e = (refl, e)
-earlier-fine (Refused a x) Fine e = refused-not-fine a x e
-earlier-fine (Refused a x) (Refused b y) e = go (leb x y) refl
+earlier-fine (Err why) Fine e = refused-not-fine why.cause why.place e
+earlier-fine (Err why) (Err why2) e = go (leb why.place why2.place) refl
   where
-    go : (q : Bool) → leb x y ≡ q → (Refused a x ≡ Fine) × (Refused b y ≡ Fine)
+    go : (q : Bool) → leb x y ≡ q → (refused a x ≡ Fine) × (refused b y ≡ Fine)
     go true p = refused-not-fine a x (rw p at e)
     go false p = refused-not-fine b y (rw p at e)
 
@@ -91,12 +94,12 @@ last_line-number t s l n h =
     ap (λ (k : ℕ). (last_line (lines_of (held t s l 0 k))).number) one ∙ last_word t s l 0 (n - 1) ∙ ap (λ (x : ℕ). get_or l x 0) (zero-add (n - 1))
 
 -- without an output, and with one
-pub no_output : (ls : List Line) → over_fault (listed outputs_key ls) 0 ≡ Fine → some_fault ls ≡ Refused 19 (last_line ls).number
+pub no_output : (ls : List Line) → over_fault (listed outputs_key ls) 0 ≡ Fine → some_fault ls ≡ refused TextModel (last_line ls).number
 no_output ls e =
     let none : length (listed outputs_key ls) ≤ 0 = leb-true _ _ (unless-fine _ 19 _ e) in
     rw (lt-leb 1 (length (listed outputs_key ls)) (omega arith))
 
-pub some_output : (ls : List Line) (a x : ℕ) → over_fault (listed outputs_key ls) 0 ≡ Refused a x → some_fault ls ≡ Fine
+pub some_output : (ls : List Line) (a : Cause) (x : ℕ) → over_fault (listed outputs_key ls) 0 ≡ refused a x → some_fault ls ≡ Fine
 some_output ls a x e = go (leb (length (listed outputs_key ls)) 0) refl
   where
     go : (b : Bool) → leb (length (listed outputs_key ls)) 0 ≡ b → some_fault ls ≡ Fine

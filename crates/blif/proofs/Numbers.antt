@@ -5,8 +5,8 @@ use mathlib.Core.List.{List, [], ◌∷◌}
 use native.Mathlib.Omega.{arith}
 use lib.Dec.{leb, eqb, ltb}
 use lib.ListN.{length, get_or}
-use Rattle.refusal.specs.declared.Judgement.{Judgement}
-use Rattle.refusal.specs.declared.Judgement.TheVariants.{Fine, Refused}
+use Rattle.refusal.specs.Judgement.{Judgement}
+use Rattle.refusal.specs.Judgement.{Fine, refused}
 use Rattle.refusal.proofs.Laws.{Only, only-unless, only-otherwise, only-lowest}
 use Rattle.texts.specs.Words.{Word, line_feeds, most_bytes}
 use Rattle.statements.specs.declared.Phase.{Phase}
@@ -19,16 +19,18 @@ use Rattle.area.specs.Layout.{most_inputs, most_gates, most_outputs}
 use Rattle.model.specs.Counts.{earlier, line_at, over_fault, count_fault}
 use Rattle.resolve.specs.Names.{again_fault, unknown_fault, names_fault, sources_in, source_numbers}
 use Rattle.blif.specs.Reading.{text_lines, input_count, gate_count, model_length, blif_refusal}
+use Rattle.refusal.specs.declared.Cause.TheVariants.{TextLine}
+use Rattle.std.specs.Prelude.{Err}
 
 abbrev Positive : ℕ → Type 0
 Positive number = 0 < number
 
 only-earlier : (v w : Judgement) → Only Positive v → Only Positive w → Only Positive (earlier v w)
 only-earlier Fine w f g = g
-only-earlier (Refused a x) Fine f g = f
-only-earlier (Refused a x) (Refused b y) f g = go (leb x y)
+only-earlier (Err why) Fine f g = f
+only-earlier (Err why) (Err why2) f g = go (leb why.place why2.place)
   where
-    go : (q : Bool) → Only Positive (cond q (Refused a x) (Refused b y))
+    go : (q : Bool) → Only Positive (cond q (refused a x) (refused b y))
     go true = f
     go false = g
 
@@ -36,7 +38,7 @@ only-fault : (p : Phase) (ls : List Line) (last : ℕ) → Only Positive (fault 
 only-fault p [] last = only-unless Positive (is_ended p) 18 last (omega arith)
 only-fault p (l ∷ ls) last = go (is_misfit (fit p l.words)) (only-fault (fit p l.words) ls last)
   where
-    go : (q : Bool) → Only Positive (fault (fit p l.words) ls last) → Only Positive (cond q (Refused 18 l.number) (fault (fit p l.words) ls last))
+    go : (q : Bool) → Only Positive (fault (fit p l.words) ls last) → Only Positive (cond q (refused TextLine l.number) (fault (fit p l.words) ls last))
     go true ih = only-unless Positive false 18 l.number (omega arith)
     go false ih = ih
 

@@ -16,6 +16,7 @@ use Rattle.model.specs.Counts.{line_at}
 use Rattle.model.specs.Tables.{lines_from}
 use Rattle.blif.specs.Reading.{no_place, loops_fault}
 use Rattle.blif.specs.Resolved.{Resolved}
+use Rattle.refusal.specs.declared.Cause.TheVariants.{TextModel}
 
 left-zeros : (n k : ℕ) → left (replicate n 0) k ≡ k
 left-zeros n zero = refl
@@ -43,8 +44,8 @@ module _ {t s l : List ℕ} {n : ℕ} {heads pins counts outs numbers : List ℕ
   unfolding loop_fault
   same-loops =
       lowest-same
-      (λ (j : ℕ). refuse_unless (not (via (sources_of pins counts) inputs gates j j)) 19 (get_or numbers (inputs + j) 0))
-      (λ (j : ℕ). refuse_unless (not (via (sources_of pins counts) inputs gates j j)) 19 (line_at (defined (lines_from t s l n 0)) (inputs + j)))
+      (λ (j : ℕ). refuse_unless (not (via (sources_of pins counts) inputs gates j j)) TextModel (get_or numbers (inputs + j) 0))
+      (λ (j : ℕ). refuse_unless (not (via (sources_of pins counts) inputs gates j j)) TextModel (line_at (defined (lines_from t s l n 0)) (inputs + j)))
       gates
-      (λ j h. ap (refuse_unless (not (via (sources_of pins counts) inputs gates j j)) 19) (r.gate_lines j h))
+      (λ j h. ap (refuse_unless (not (via (sources_of pins counts) inputs gates j j)) TextModel) (r.gate_lines j h))
       ∙ rw (r.sources_are, r.counted.inputs_are, r.counted.gates_are) refl

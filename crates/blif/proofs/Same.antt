@@ -8,7 +8,7 @@ use lib.ListN.{length, get_or, drop, length-map}
 use lib.Seq.{sets}
 use borrow.Author.Tests.{le-leb, lt-leb}
 use Rattle.lists.proofs.Parts.{sets_first}
-use Rattle.refusal.specs.declared.Judgement.TheVariants.{Fine, Refused}
+use Rattle.refusal.specs.Judgement.{Fine, refused}
 use Rattle.netlist.specs.Netlist.{Gate, Netlist}
 use Rattle.texts.specs.Words.{Word}
 use Rattle.statements.specs.Lines.{Line}
@@ -26,6 +26,7 @@ use Rattle.writing.specs.Written.{table_at, held_net, Placeable, Ordered}
 use Rattle.writing.proofs.Pins.{gates-length, mapped-length}
 use Rattle.blif.specs.Reading.{table_in, no_place, model_net, model_length, room_fault, image_over}
 use Rattle.blif.specs.Resolved.{Resolved}
+use Rattle.refusal.specs.declared.Cause.TheVariants.{ImageSlice}
 
 -- functions that agree on entries below g have the same map
 map_below : {A : Type 0} (f h : ℕ → A) (g : ℕ) (order : List ℕ) (i k : ℕ) → ((q : ℕ) → q < k → get_or order (i + q) 0 < g) → ((j : ℕ) → j < g → f j ≡ h j)
@@ -85,7 +86,7 @@ module _ {t s l : List ℕ} {n : ℕ} {heads pins counts outs numbers place orde
       (mapped-length (source_of inputs place) outs 0 outputs)
 
   -- a slice that is too short, and one that is not
-  pub short : (room : ℕ) → room < image_length gates outputs → room_fault (lines_from t s l n 0) room ≡ Refused 20 0
+  pub short : (room : ℕ) → room < image_length gates outputs → room_fault (lines_from t s l n 0) room ≡ refused ImageSlice 0
   short room h = rw (lt-leb (model_length (lines_from t s l n 0)) room (rw (← same_length) h))
 
   pub fits : (room : ℕ) → image_length gates outputs ≤ room → room_fault (lines_from t s l n 0) room ≡ Fine

@@ -10,7 +10,7 @@ use native.Mathlib.Omega.{arith}
 use lib.ListN.{length, get_or, replicate, get_or-eq_default}
 use borrow.Author.Tests.{ltb-true}
 use Rattle.lists.proofs.Parts.{zeros-at}
-use Rattle.refusal.specs.declared.Judgement.TheVariants.{Fine}
+use Rattle.refusal.specs.Judgement.{Fine}
 use Rattle.refusal.specs.Judgement.{lowest}
 use Rattle.refusal.proofs.Laws.{lowest-same, lowest-fine, unless-fine}
 use Rattle.texts.specs.Words.{Word, held}

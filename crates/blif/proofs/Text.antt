@@ -8,7 +8,7 @@ use native.Mathlib.Nat.{sub-zero}
 use native.Mathlib.Omega.{arith}
 use lib.ListN.{length}
 use borrow.Author.Tests.{le-leb, lt-leb}
-use Rattle.refusal.specs.declared.Judgement.TheVariants.{Fine, Refused}
+use Rattle.refusal.specs.Judgement.{Fine, refused}
 use Rattle.refusal.specs.Judgement.{otherwise}
 use Rattle.texts.specs.Words.{Read, held, line_feeds, most_bytes}
 use Rattle.statements.specs.declared.Phase.TheVariants.{Before}
@@ -19,8 +19,9 @@ use Rattle.writing.specs.Written.{Words}
 use Rattle.blif.specs.Reading.{text_lines, lines_refusal, blif_refusal}
 use Rattle.blif.specs.Stages.{Fitting}
 use Rattle.blif.proofs.Fits.{no_line, fitting}
+use Rattle.refusal.specs.declared.Cause.TheVariants.{TextLine}
 
-pub too_long : (t : List ℕ) (room : ℕ) → most_bytes < length t → blif_refusal t room ≡ Refused 18 0
+pub too_long : (t : List ℕ) (room : ℕ) → most_bytes < length t → blif_refusal t room ≡ refused TextLine 0
 unfolding blif_refusal
 too_long t room h = rw (lt-leb (length t) most_bytes h)
 

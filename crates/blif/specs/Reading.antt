@@ -1,6 +1,6 @@
 -- Reading BLIF: what a text is refused for, and the image that is written. Document 02, card 4.
 use Rattle.std.specs.Prelude.{ℕ, ◌+◌, List, ◌++◌, map, length, get_or, drop, replicate, leb}
-use Rattle.refusal.specs.declared.Judgement.{Judgement}
+use Rattle.refusal.specs.Judgement.{Judgement}
 use Rattle.refusal.specs.Judgement.{refuse_unless, otherwise, unless_refused}
 use Rattle.netlist.specs.Netlist.{Netlist}
 use Rattle.area.specs.Layout.{most_gates}
@@ -16,6 +16,7 @@ use Rattle.meaning.specs.Net.{placed_net}
 use Rattle.resolve.specs.Names.{sources_in, source_numbers, names_fault}
 use Rattle.image.specs.Image.{image_length}
 use Rattle.records.specs.Bytes.{image_of}
+use Rattle.refusal.specs.declared.Cause.TheVariants.{TextLine, ImageSlice}
 
 -- the lines of a text that have words
 abbrev pub text_lines : List ℕ → List Line
@@ -64,7 +65,7 @@ abbrev pub model_length : List Line → ℕ
 model_length ls = image_length (gate_count ls) (output_count ls)
 
 abbrev pub room_fault : List Line → ℕ → Judgement
-room_fault ls room = refuse_unless (leb (model_length ls) room) 20 0
+room_fault ls room = refuse_unless (leb (model_length ls) room) ImageSlice 0
 
 -- 19 and 20 of lines where 18 finds nothing
 abbrev pub lines_refusal : List Line → ℕ → Judgement
@@ -73,7 +74,7 @@ lines_refusal ls room = otherwise (model_fault ls) (room_fault ls room)
 -- 18, 19, 20 of a text, in this order
 unfoldable pub blif_refusal : List ℕ → ℕ → Judgement
 blif_refusal text room =
-    otherwise (refuse_unless (leb (length text) most_bytes) 18 0)
+    otherwise (refuse_unless (leb (length text) most_bytes) TextLine 0)
     (otherwise (fault Before (text_lines text) (1 + line_feeds text)) (lines_refusal (text_lines text) room))
 
 -- the image over the first bytes of a slice

@@ -1,6 +1,6 @@
 -- The refusals of lines from each test on, and what the tests before have shown of the tables.
 use Rattle.std.specs.Prelude.{ℕ, ◌+◌, ◌<◌, ◌≤◌, List, ◌≡◌, length, get_or}
-use Rattle.refusal.specs.declared.Judgement.{Judgement}
+use Rattle.refusal.specs.Judgement.{Judgement}
 use Rattle.refusal.specs.Judgement.{otherwise, lowest}
 use Rattle.area.specs.Layout.{most_pins, most_inputs, most_gates, most_outputs}
 use Rattle.texts.specs.Words.{held}

@@ -6,7 +6,7 @@ use native.Mathlib.Omega.{arith}
 use lib.ListN.{length, get_or, take, drop, length-map, length-take}
 use lib.Seq.{take_at}
 use lib.Dec.{leb}
-use Rattle.refusal.specs.declared.Judgement.TheVariants.{Fine}
+use Rattle.refusal.specs.Judgement.{Fine}
 use Rattle.refusal.specs.Judgement.{otherwise, refuse_unless}
 use Rattle.refusal.proofs.Laws.{otherwise-fine}
 use Rattle.netlist.specs.Netlist.{Gate, Netlist, gate_at}
@@ -38,6 +38,7 @@ use Rattle.blif.proofs.Sources.{all_known}
 use Rattle.blif_meaning.specs.Statements.{ImagePasses, ImageHoldsModel, written, WrittenMeansText}
 use Rattle.blif_meaning.proofs.Statements.{r, kept, known, counts-fine, names-fine, outputs-fine, all-defined}
 use Rattle.blif_meaning.proofs.Statements.{placed_model, same-model, map_at, values-right}
+use Rattle.refusal.specs.declared.Cause.TheVariants.{TextLine}
 
 after-long : (ws : List (List ℕ)) → length ws - 1 ≡ length (after ws)
 after-long [] = refl
@@ -155,7 +156,7 @@ module _ (text : List ℕ) (room : ℕ) (e : blif_refusal text room ≡ Fine) wh
   unfolding blif_refusal
   lines-fine =
       otherwise-fine (fault Before (text_lines text) (1 + line_feeds text)) (lines_refusal (text_lines text) room)
-      (otherwise-fine (refuse_unless (leb (length text) most_bytes) 18 0)
+      (otherwise-fine (refuse_unless (leb (length text) most_bytes) TextLine 0)
       (otherwise (fault Before (text_lines text) (1 + line_feeds text)) (lines_refusal (text_lines text) room)) e).1
 
   pub accepted-lines : Fitting (text_lines text)

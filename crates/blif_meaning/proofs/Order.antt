@@ -8,7 +8,7 @@ use native.Mathlib.Omega.{arith}
 use lib.ListN.{length, get_or}
 use lib.Dec.{eqb, leb}
 use borrow.Author.Tests.{eqb-true, ne_eqb}
-use Rattle.refusal.specs.declared.Judgement.TheVariants.{Fine}
+use Rattle.refusal.specs.Judgement.{Fine}
 use Rattle.area.specs.Layout.{most_pins}
 use Rattle.texts.specs.Words.{Word, step_from, step, begins, begun, word_of, words_from, words_of, line_feeds}
 use Rattle.texts.specs.declared.Place.{Place}

@@ -10,8 +10,8 @@ use lib.ListN.{length, get_or, take, length-map, length-append, get_or-append}
 use lib.Seq.{get_or-append-add}
 use lib.Dec.{eqb, ltb, leb}
 use borrow.Author.Tests.{eqb-false, ne_eqb, ltb-true, ltb-false, leb-true, leb-false, lt-leb}
-use Rattle.refusal.specs.declared.Judgement.{Judgement}
-use Rattle.refusal.specs.declared.Judgement.TheVariants.{Fine, Refused}
+use Rattle.refusal.specs.Judgement.{Judgement}
+use Rattle.refusal.specs.Judgement.{Fine, refused}
 use Rattle.refusal.specs.Judgement.{refuse_unless, otherwise, lowest}
 use Rattle.area.specs.Layout.{most_inputs, most_gates, most_outputs}
 use Rattle.texts.specs.Words.{Word}
@@ -31,33 +31,35 @@ use Rattle.blif.specs.Reading.{text_lines, input_count, gate_count, loops_fault}
 use Rattle.blif.specs.Stages.{sources_fault}
 use Rattle.blif_meaning.proofs.Statements.{number-name, map_at, all-defined, gates_known}
 use Rattle.blif_meaning.proofs.Order.{Rising, in_order, word_lines, same_line, front-rising, gate-line, inputs-first, outputs-first}
+use Rattle.refusal.specs.declared.Cause.TheVariants.{TextModel}
+use Rattle.std.specs.Prelude.{Err}
 
 -- ---- what tests say, put together
 
 -- the same lines under another description
 says_same : (v : Judgement) (P Q : ℕ → Type 0) → ((y : ℕ) → P y → Q y) → ((y : ℕ) → Q y → P y) → Says v P → Says v Q
 says_same Fine P Q there back s = λ y q. s y (back y q)
-says_same (Refused a x) P Q there back s = (s.0, record { there = there x s.1.there; least = λ y q. s.1.least y (back y q) })
+says_same (Err why) P Q there back s = (s.0, record { there = there why.place s.1.there; least = λ y q. s.1.least y (back y q) })
 
 -- one test of one line
-says-unless : (t : Bool) (line : ℕ) → Says (refuse_unless t 19 line) (λ y. (t ≡ false) × (line ≡ y))
+says-unless : (t : Bool) (line : ℕ) → Says (refuse_unless t TextModel line) (λ y. (t ≡ false) × (line ≡ y))
 says-unless true line = λ y h. let z : ◌≡◌ {A = ℕ} 0 1 = cc h.0 in omega arith
 says-unless false line = (refl, record { there = (refl, refl); least = λ y h. omega (arith, h.1) })
 
 -- one test after another whose lines are not lower
 says-otherwise : (v w : Judgement) (P Q : ℕ → Type 0) → Says v P → Says w Q → ((x y : ℕ) → P x → Q y → x ≤ y) → Says (otherwise v w) (λ y. P y ⊎ Q y)
 says-otherwise Fine Fine P Q s t h = λ y c. ⊎_elim (s y) (t y) c
-says-otherwise Fine (Refused b y) P Q s t h = (t.0, record { there = inr t.1.there; least = λ z c. ⊎_elim (λ p. absurd (s z p)) (t.1.least z) c })
-says-otherwise (Refused a x) w P Q s t h = (s.0, record { there = inl s.1.there; least = λ z c. ⊎_elim (s.1.least z) (λ q. h x z s.1.there q) c })
+says-otherwise Fine (Err why) P Q s t h = (t.0, record { there = inr t.1.there; least = λ z c. ⊎_elim (λ p. absurd (s z p)) (t.1.least z) c })
+says-otherwise (Err why) w P Q s t h = (s.0, record { there = inl s.1.there; least = λ z c. ⊎_elim (s.1.least z) (λ q. h why.place z s.1.there q) c })
 
 -- the lower of two lines
 says-earlier : (v w : Judgement) (P Q : ℕ → Type 0) → Says v P → Says w Q → Says (earlier v w) (λ y. P y ⊎ Q y)
 says-earlier Fine Fine P Q s t = λ y c. ⊎_elim (s y) (t y) c
-says-earlier Fine (Refused b y) P Q s t = (t.0, record { there = inr t.1.there; least = λ z c. ⊎_elim (λ p. absurd (s z p)) (t.1.least z) c })
-says-earlier (Refused a x) Fine P Q s t = (s.0, record { there = inl s.1.there; least = λ z c. ⊎_elim (s.1.least z) (λ q. absurd (t z q)) c })
-says-earlier (Refused a x) (Refused b y) P Q s t = go (leb x y) refl
+says-earlier Fine (Err why) P Q s t = (t.0, record { there = inr t.1.there; least = λ z c. ⊎_elim (λ p. absurd (s z p)) (t.1.least z) c })
+says-earlier (Err why) Fine P Q s t = (s.0, record { there = inl s.1.there; least = λ z c. ⊎_elim (s.1.least z) (λ q. absurd (t z q)) c })
+says-earlier (Err why) (Err why2) P Q s t = go (leb why.place why2.place) refl
   where
-    go : (l : Bool) → leb x y ≡ l → Says (earlier (Refused a x) (Refused b y)) (λ z. P z ⊎ Q z)
+    go : (l : Bool) → leb x y ≡ l → Says (earlier (refused a x) (refused b y)) (λ z. P z ⊎ Q z)
     go true e =
         rw e
         (s.0, record { there = inl s.1.there; least = λ z c. ⊎_elim (s.1.least z) (λ q. omega (arith, leb-true x y e, t.1.least z q)) c })
@@ -180,9 +182,9 @@ module _ (ws : List Word) {b : ℕ} (rising : Rising b (word_lines ws)) where
   lines-in-order i j l h =
       rw (← line-at i (omega arith), ← line-at j h) (in_order rising i j l (rw (length-map ws (λ (w : Word). w.line)) h))
 
-  says-entries : (t : ℕ → Bool) → Says (lowest (λ (i : ℕ). refuse_unless (t i) 19 (line_at ws i)) (length ws)) (Fails ws t)
+  says-entries : (t : ℕ → Bool) → Says (lowest (λ (i : ℕ). refuse_unless (t i) TextModel (line_at ws i)) (length ws)) (Fails ws t)
   says-entries t =
-      says-lowest (λ (i : ℕ). refuse_unless (t i) 19 (line_at ws i)) (λ (i y : ℕ). (t i ≡ false) × (line_at ws i ≡ y)) (length ws)
+      says-lowest (λ (i : ℕ). refuse_unless (t i) TextModel (line_at ws i)) (λ (i y : ℕ). (t i ≡ false) × (line_at ws i ≡ y)) (length ws)
       (λ i h. says-unless (t i) (line_at ws i))
       (λ i j x y h l p q. omega (arith, lines-in-order i j (omega arith) l, p.1, q.1))
 
@@ -286,7 +288,7 @@ pub says-loops : (ls : List Line) {b : ℕ} → Rising b (word_lines (defined ls
 unfolding loop_fault
 says-loops ls rising named =
     says_same (loops_fault ls) (λ y. (j : ℕ) × (j < gate_count ls) × Looped j y) (HeadsLoop ls) there back
-    (says-lowest (λ (j : ℕ). refuse_unless (not (via (source_numbers ls) (input_count ls) (gate_count ls) j j)) 19 (line_at (defined ls) (input_count ls + j))) Looped (gate_count ls)
+    (says-lowest (λ (j : ℕ). refuse_unless (not (via (source_numbers ls) (input_count ls) (gate_count ls) j j)) TextModel (line_at (defined ls) (input_count ls + j))) Looped (gate_count ls)
     (λ j h. says-unless (not (via (source_numbers ls) (input_count ls) (gate_count ls) j j)) (line_at (defined ls) (input_count ls + j)))
     (λ i j x y h l p q. rw (← p.1, ← q.1)
     (lines-in-order (defined ls) rising (input_count ls + i) (input_count ls + j) (omega arith) (omega (arith, all-defined ls)))))

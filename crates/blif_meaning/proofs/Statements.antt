@@ -7,7 +7,7 @@ use native.Mathlib.Omega.{arith}
 use lib.ListN.{length, get_or, length-map, length-append, get_or-append}
 use lib.Seq.{get_or-append-add}
 use borrow.Author.Tests.{eqb-true}
-use Rattle.refusal.specs.declared.Judgement.TheVariants.{Fine}
+use Rattle.refusal.specs.Judgement.{Fine}
 use Rattle.refusal.specs.Judgement.{otherwise}
 use Rattle.refusal.proofs.Laws.{otherwise-fine, lowest-fine, unless-fine}
 use Rattle.figure.specs.Figure.{is_odd, answer}

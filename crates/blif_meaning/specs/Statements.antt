@@ -1,6 +1,6 @@
 -- What is promised of the netlist that a text becomes, beside the equations of the call.
 use Rattle.std.specs.Prelude.{ℕ, ◌/◌, ◌^◌, ◌<◌, ◌≡◌, Bool, false, List, map, length, get_or, take}
-use Rattle.refusal.specs.declared.Judgement.TheVariants.{Fine}
+use Rattle.refusal.specs.Judgement.{Fine}
 use Rattle.figure.specs.Figure.{is_odd, answer}
 use Rattle.netlist.specs.Netlist.{right_values}
 use Rattle.netlist.specs.WellFormed.{PinsBelow}

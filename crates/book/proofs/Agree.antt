@@ -24,11 +24,12 @@ use Rattle.area.proofs.Net.{sound-net, gate_count, gate-at}
 use Rattle.fresh.specs.Fresh.{Fresh, Converted}
 use Rattle.book.specs.Book.{Book}
 use Rattle.book.specs.Statement.{WithinBound, WithinSharp, Current}
-use Rattle.refusal.specs.declared.Judgement.TheVariants.{Fine}
+use Rattle.refusal.specs.Judgement.{Fine}
 use Rattle.refusal.specs.Judgement.{refuse_unless}
 use Rattle.fresh.specs.Statements.{FiguresHeld}
 use Rattle.fresh.proofs.Statements.{fresh-holds-netlist}
 use Rattle.area.proofs.Words.{output_count}
+use Rattle.refusal.specs.declared.Cause.TheVariants.{AreaTooShort}
 
 -- the area has `size` words; beside the kinds and chances, which they do not hold, they have the book's netlist and pattern, and its figures are worked out
 pub record Agree (size : ℕ) (ws : List ℕ) (b : Book) : Type 0 where
@@ -64,7 +65,7 @@ module _ (size : ℕ) (ws : List ℕ) (b : Book) (agree : Agree size ws b) where
   room =
       let fits : needed (length b.net.gates) (length b.net.outputs) ≤ size
       = omega (arith, net.long, same-gate-count, same-output-count, agree.long) in
-      ap (λ (c : Bool). refuse_unless c 13 0) (le-leb _ _ fits)
+      ap (λ (c : Bool). refuse_unless c AreaTooShort 0) (le-leb _ _ fits)
 
   pub well-formed : WellFormed chance_scale b.net
   well-formed = subst (WellFormed chance_scale) agree.held (sound-net chance_scale ws agree.kinds agree.chances net agree.chances_fit)

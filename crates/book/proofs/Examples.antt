@@ -11,8 +11,8 @@ use Rattle.netlist.specs.declared.Method.TheVariants.{Flip, Mask}
 use Rattle.netlist.specs.Live.{live_reads, readers}
 use Rattle.netlist.specs.Netlist.{Gate}
 use Rattle.area.specs.Rules.{gate_shape, used_below, counts_in_range}
-use Rattle.refusal.specs.declared.Judgement.{Judgement}
-use Rattle.refusal.specs.declared.Judgement.TheVariants.{Fine, Refused}
+use Rattle.refusal.specs.Judgement.{Judgement}
+use Rattle.refusal.specs.Judgement.{Fine, refused}
 use Rattle.image.specs.Image.{middle}
 use Rattle.image.specs.Refusals.{length_right, back_right, trailer_refusal, flip_refusal, gate_refusal, output_refusal, middle_refusal, image_refusal}
 use Rattle.image.specs.Loading.{record_chance}
@@ -25,6 +25,7 @@ use Rattle.image.specs.Netlist.{image_net}
 use Rattle.book.specs.Book.{Book, image_book, with_flip, held_judgement, book_judgement, book_step}
 use Rattle.book.specs.Statement.{Kept}
 use Rattle.book.proofs.List.{demand3}
+use Rattle.refusal.specs.declared.Cause.TheVariants.{WrongLength, NotThere, CallFlip, WrongWeights, AreaTooShort, ListLength, ListedPattern, CountSlice, WrittenSlice, ChanceAboveHalf}
 
 pub not-refused : image_refusal printed_image ≡ Fine
 unfolding
@@ -50,7 +51,7 @@ pub accepted : open_judgement printed_image 33 ≡ Fine
 unfolding open_judgement shared_judgement readers live_reads image_net middle
 accepted = rw not-refused refl
 
-pub too_short : open_judgement printed_image 32 ≡ Refused 13 0
+pub too_short : open_judgement printed_image 32 ≡ refused AreaTooShort 0
 unfolding open_judgement shared_judgement readers live_reads image_net middle
 too_short = rw not-refused refl
 
@@ -85,22 +86,22 @@ judgements b size (call ∷ more) = book_judgement b size call ∷ judgements (b
 
 pub said : judgements (image_book printed_image) 33 calls
     ≡ Fine
-    ∷ Refused 10 2
+    ∷ refused NotThere 2
     ∷ Fine
-    ∷ Refused 11 1
+    ∷ refused CallFlip 1
     ∷ Fine
-    ∷ Refused 22 1
-    ∷ Refused 10 3
-    ∷ Refused 12 0
-    ∷ Refused 12 0
+    ∷ refused ChanceAboveHalf 1
+    ∷ refused NotThere 3
+    ∷ refused WrongWeights 0
+    ∷ refused WrongWeights 0
     ∷ Fine
-    ∷ Refused 15 0
-    ∷ Refused 16 1
-    ∷ Refused 17 0
+    ∷ refused ListLength 0
+    ∷ refused ListedPattern 1
+    ∷ refused CountSlice 0
     ∷ Fine
-    ∷ Refused 21 0
+    ∷ refused WrittenSlice 0
     ∷ Fine
-    ∷ Refused 1 0
+    ∷ refused WrongLength 0
     ∷ Fine
     ∷ []
 unfolding
@@ -113,6 +114,6 @@ pub kept : Kept 33 (open_words printed_image (replicate 33 0)) (image_book print
 kept = demand3 (replicate 33 0) printed_image calls accepted
 
 -- in an area that is too short the book says 13 first, whatever is named
-pub short-first : book_judgement (image_book printed_image) 32 (toggle_input 2) ≡ Refused 13 0
+pub short-first : book_judgement (image_book printed_image) 32 (toggle_input 2) ≡ refused AreaTooShort 0
 unfolding held_judgement image_net middle
 short-first = refl

@@ -3,8 +3,8 @@ use Prim.Native.Nat.{ℕ}
 use mathlib.Core.List.{List, [], ◌∷◌}
 use mathlib.Core.Path.{◌≡◌, refl, sym, subst, ◌∙◌}
 use lib.ListN.{length}
-use Rattle.refusal.specs.declared.Judgement.{Judgement}
-use Rattle.refusal.specs.declared.Judgement.TheVariants.{Fine, Refused}
+use Rattle.refusal.specs.Judgement.{Judgement}
+use Rattle.refusal.specs.Judgement.{Fine, refused}
 use Rattle.refusal.specs.Judgement.{unless_refused}
 use Rattle.calls.specs.Judgements.{Call, open_image, toggle_input, set_flip, read_netlist, read_gate, take_average, count_seen, write_image}
 use Rattle.calls.specs.Calls.{open_words, work, left}
@@ -14,6 +14,7 @@ use Rattle.book.proofs.Agree.{Agree, current}
 use Rattle.book.proofs.Shown.{Shown}
 use Rattle.book.proofs.Open.{opened}
 use Rattle.book.proofs.Calls.{shown-open, shown-toggle, shown-set, shown_read, shown-read-gate, shown-average, shown-counts, shown-write}
+use Rattle.std.specs.Prelude.{Err}
 
 -- every call of the list
 pub shown : (call : Call) → Shown call
@@ -45,7 +46,7 @@ module _ (size : ℕ) (ws : List ℕ) (b : Book) (call : Call) (agree : Agree si
     where
       go : (v : Judgement) → book_judgement b size call ≡ v → Agree size (unless_refused v (work ws call) ws) (unless_refused v (entered b call) b)
       go Fine e = (shown call).agrees size ws b agree e
-      go (Refused number place) e = agree
+      go (Err why) e = agree
 
 pub list-kept : (size : ℕ) (ws : List ℕ) (b : Book) (calls : List Call) → Agree size ws b → Kept size ws b calls
 list-kept size ws b [] agree = current size ws b agree

@@ -3,7 +3,7 @@ use Prim.Native.Nat.{ℕ}
 use mathlib.Core.List.{List}
 use mathlib.Core.Path.{◌≡◌, sym, ap, ap₂, ◌∙◌}
 use lib.ListN.{length}
-use Rattle.refusal.specs.declared.Judgement.TheVariants.{Fine}
+use Rattle.refusal.specs.Judgement.{Fine}
 use Rattle.refusal.proofs.Laws.{otherwise-fine, otherwise-second, Only, NotRule, only-otherwise}
 use Rattle.area.specs.Layout.{inputs, gates, outputs}
 use Rattle.area.specs.Rules.{room_judgement}

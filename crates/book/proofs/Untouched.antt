@@ -5,8 +5,8 @@ use mathlib.Core.Path.{◌≡◌, refl, sym, ap, ◌∙◌}
 use native.Mathlib.Omega.{arith}
 use lib.ListN.{length, get_or, drop}
 use lib.Seq.{get_or-append-add, get_or-drop}
-use Rattle.refusal.specs.declared.Judgement.{Judgement}
-use Rattle.refusal.specs.declared.Judgement.TheVariants.{Fine, Refused}
+use Rattle.refusal.specs.Judgement.{Judgement}
+use Rattle.refusal.specs.Judgement.{Fine, refused}
 use Rattle.refusal.specs.Judgement.{unless_refused}
 use Rattle.chance.specs.Flip.{flip_units}
 use Rattle.area.specs.Layout.{inputs, gates, outputs, needed}
@@ -24,6 +24,7 @@ use Rattle.calls.specs.Calls.{open_words, work}
 use Rattle.calls.proofs.Judgements.{open-fine, lent-fine, set-fine}
 use Rattle.book.specs.Statement.{needed_by, Untouched, PastUntouched}
 use Rattle.book.proofs.Open.{opened-length}
+use Rattle.std.specs.Prelude.{Err}
 
 frame-untouched : (ws vs : List ℕ) → SameFrame ws vs → Untouched (needed (gates ws) (outputs ws)) ws vs
 frame-untouched ws vs same = record { size = same.size; past = past-kept ws vs same }
@@ -67,4 +68,4 @@ past-untouched ws call = go (judgement ws call) refl
   where
     go : (v : Judgement) → judgement ws call ≡ v → Untouched (needed_by ws call) ws (unless_refused v (work ws call) ws)
     go Fine e = work-untouched ws call e
-    go (Refused number place) e = record { size = refl; past = λ i l. refl }
+    go (Err why) e = record { size = refl; past = λ i l. refl }

@@ -5,7 +5,7 @@ use mathlib.Core.Path.{◌≡◌, refl, sym, ap, ap₂, ◌∙◌}
 use native.Mathlib.Omega.{arith}
 use lib.ListN.{length}
 use borrow.Author.Tests.{le-leb}
-use Rattle.refusal.specs.declared.Judgement.TheVariants.{Fine}
+use Rattle.refusal.specs.Judgement.{Fine}
 use Rattle.refusal.proofs.Laws.{fine-lowest, otherwise-second}
 use Rattle.rules.proofs.Sound.{sound-passes}
 use Rattle.netlist.specs.Netlist.{Netlist}

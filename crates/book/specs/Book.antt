@@ -1,7 +1,7 @@
 -- The book of document 01, "The list and the book": what is current and exact after a list of calls. It sees how long the area is and what the calls are
 -- given, but no word of the area and no answer.
 use Rattle.std.specs.Prelude.{ℕ, List, length, set}
-use Rattle.refusal.specs.declared.Judgement.{Judgement}
+use Rattle.refusal.specs.Judgement.{Judgement}
 use Rattle.refusal.specs.Judgement.{otherwise, unless_refused}
 use Rattle.chance.specs.Flip.{flip_chance}
 use Rattle.netlist.specs.Netlist.{Gate, Netlist, gate_at}

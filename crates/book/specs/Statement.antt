@@ -1,6 +1,6 @@
 -- Demand 3, one claim about the whole list: document 01, "The list and the book". proofs/List.antt proves it.
 use Rattle.std.specs.Prelude.{ℕ, ◌+◌, ◌*◌, ◌≤◌, List, [], ◌∷◌, ◌≢◌, ◌≡◌, length, get_or}
-use Rattle.refusal.specs.declared.Judgement.TheVariants.{Fine, Refused}
+use Rattle.refusal.specs.Judgement.{Fine, refused}
 use Rattle.rounding.specs.Rounding.{units_in_one}
 use Rattle.chance.specs.Number.{chance_scale}
 use Rattle.netlist.specs.declared.Method.TheVariants.{Flip}
@@ -21,6 +21,7 @@ use Rattle.calls.specs.Calls.{open_words, average_of, left}
 use Rattle.written.specs.Image.{area_image}
 use Rattle.written_opened.specs.Statements.{words_over, at_pattern_zero, in_units, toggled_all, ListsOnes, SameAgain}
 use Rattle.book.specs.Book.{Book, image_book, book_judgement, book_step}
+use Rattle.refusal.specs.declared.Cause.TheVariants.{AreaRule}
 
 -- so many units are within 1.5 for each live gate of U × the exact sum at the book's pattern, and so many as an average within half a unit more
 abbrev pub WithinBound : ℕ → Book → Type 0
@@ -76,7 +77,7 @@ AnswerKept ws b (write_image room) = ImageKept ws b
 -- a call is refused exactly where the book says, with that number and place, and never with 14
 pub record CallKept (size : ℕ) (ws : List ℕ) (b : Book) (call : Call) : Type 0 where
   pub judged : judgement ws call ≡ book_judgement b size call
-  pub never_14 : (place : ℕ) → judgement ws call ≢ Refused 14 place
+  pub never_14 : (place : ℕ) → judgement ws call ≢ refused AreaRule place
   pub answer : judgement ws call ≡ Fine → AnswerKept ws b call
 
 -- on an area of `size` words, which are ws, and whose book is b: it is current now and after each of the calls, and each call is as promised

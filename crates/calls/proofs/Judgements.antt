@@ -8,8 +8,8 @@ use borrow.Author.Tests.{leb-true, ltb-true, eqb-true, not-true, lt-ltb, le-ltb,
 use lib.Dec.{leb, ltb, eqb}
 use lib.ListN.{length, get_or}
 use Rattle.lists.specs.Lists.{all_zero}
-use Rattle.refusal.specs.declared.Judgement.{Judgement}
-use Rattle.refusal.specs.declared.Judgement.TheVariants.{Fine, Refused}
+use Rattle.refusal.specs.Judgement.{Judgement}
+use Rattle.refusal.specs.Judgement.{Fine, refused}
 use Rattle.refusal.specs.Judgement.{refuse_unless, otherwise, lowest}
 use Rattle.refusal.proofs.Laws.{unless-fine, otherwise-fine, otherwise-second, otherwise-first, lowest-fine, otherwise-assoc}
 use Rattle.refusal.proofs.Laws.{Only, NotRule, only-fine, only-unless, only-otherwise, only-lowest}
@@ -30,6 +30,9 @@ use Rattle.image.proofs.Right.{image-right}
 use Rattle.calls.specs.Judgements.{Call, open_image, toggle_input, set_flip, read_netlist, read_gate, take_average, count_seen, write_image}
 use Rattle.calls.specs.Judgements.{named, flip_judgement, weight_judgement, weights_judgement, WeightsFit, listed_judgement, counts_judgement, slice_judgement}
 use Rattle.calls.specs.Judgements.{open_judgement, image_judgement, JudgedAsOpened, argument_judgement, lent_judgement}
+use Rattle.refusal.specs.declared.Cause.{Cause}
+use Rattle.refusal.specs.declared.Cause.TheVariants.{NotThere, WrongWeights, AreaTooShort, ListLength, WrittenSlice}
+use Rattle.std.specs.Prelude.{Err}
 
 -- ---- 10 to 13, 15 to 17, 21, 22
 
@@ -39,7 +42,7 @@ named-fine x count e = ltb-true x count (unless-fine (ltb x count) 10 x e)
 pub fine-named : (x count : ℕ) → x < count → named x count ≡ Fine
 fine-named x count l = rw (lt-ltb x count l) refl
 
-pub named_past : (x count : ℕ) → count ≤ x → named x count ≡ Refused 10 x
+pub named_past : (x count : ℕ) → count ≤ x → named x count ≡ refused NotThere x
 named_past x count l = rw (le-ltb x count l) refl
 
 pub room-fine : (g k size : ℕ) → room_judgement g k size ≡ Fine → needed g k ≤ size
@@ -48,13 +51,13 @@ room-fine g k size e = leb-true (needed g k) size (unless-fine (leb (needed g k)
 pub fine-room : (g k size : ℕ) → needed g k ≤ size → room_judgement g k size ≡ Fine
 fine-room g k size l = rw (le-leb (needed g k) size l) refl
 
-pub short-room : (g k size : ℕ) → size < needed g k → room_judgement g k size ≡ Refused 13 0
+pub short-room : (g k size : ℕ) → size < needed g k → room_judgement g k size ≡ refused AreaTooShort 0
 short-room g k size l = rw (lt-leb (needed g k) size l) refl
 
 pub weights-fine : (n : ℕ) (weights : List ℕ) → weights_judgement n weights ≡ Fine → WeightsFit n weights
 unfolding weights_judgement
 weights-fine n weights e =
-    let first = otherwise-fine (refuse_unless (eqb (length weights) (2 ^ n)) 12 0) _ e in
+    let first = otherwise-fine (refuse_unless (eqb (length weights) (2 ^ n)) WrongWeights 0) _ e in
     let later = otherwise-fine (lowest (weight_judgement weights) (length weights)) _ first.1 in
     record {
       one_each = eqb-true _ _ (unless-fine _ 12 0 first.0);
@@ -68,7 +71,7 @@ unfolding counts_judgement
 counts-fine n g patterns slots e =
     let some = leb 1 (length patterns) in
     let few = leb (length patterns) most_listed in
-    let first = otherwise-fine (refuse_unless (some && few) 15 0) _ e in
+    let first = otherwise-fine (refuse_unless (some && few) ListLength 0) _ e in
     let later = otherwise-fine (lowest (listed_judgement n patterns) (length patterns)) _ first.1 in
     (leb-true _ _ (both some few (unless-fine _ 15 0 first.0)).1, leb-true _ _ (unless-fine _ 17 0 later.1))
 
@@ -78,7 +81,7 @@ slice-fine g k room e = leb-true (image_length g k) room (unless-fine (leb (imag
 pub fine-slice : (g k room : ℕ) → image_length g k ≤ room → slice_judgement g k room ≡ Fine
 fine-slice g k room l = rw (le-leb (image_length g k) room l) refl
 
-pub short-slice : (g k room : ℕ) → room < image_length g k → slice_judgement g k room ≡ Refused 21 0
+pub short-slice : (g k room : ℕ) → room < image_length g k → slice_judgement g k room ≡ refused WrittenSlice 0
 short-slice g k room l = rw (lt-leb (image_length g k) room l) refl
 
 -- ---- a call on an open area
@@ -114,7 +117,7 @@ pub lent-sound : (ws : List ℕ) (call : Call) → Sound ws → lent_judgement w
 unfolding lent_judgement
 lent-sound ws call s = otherwise-second (area_judgement ws) (argument_judgement (inputs ws) (gates ws) (outputs ws) call) (sound-passes ws s)
 
-pub lent-stopped : (ws : List ℕ) (call : Call) (a p : ℕ) → area_judgement ws ≡ Refused a p → lent_judgement ws call ≡ Refused a p
+pub lent-stopped : (ws : List ℕ) (call : Call) (a : Cause) (p : ℕ) → area_judgement ws ≡ refused a p → lent_judgement ws call ≡ refused a p
 unfolding lent_judgement
 lent-stopped ws call a p e = otherwise-first (area_judgement ws) (argument_judgement (inputs ws) (gates ws) (outputs ws) call) a p e
 
@@ -152,8 +155,8 @@ judged-as-opened bs size room =
     -- a third judgement that is fine wherever the first is
     never-third : (u v w : Judgement) → (u ≡ Fine → w ≡ Fine) → otherwise u (otherwise v w) ≡ otherwise u v
     never-third Fine Fine w h = h refl
-    never-third Fine (Refused number place) w h = refl
-    never-third (Refused number place) v w h = refl
+    never-third Fine (Err why) w h = refl
+    never-third (Err why) v w h = refl
 
 -- an area of this length holds every netlist
 pub judged-in-most : (bs : List ℕ) → open_judgement bs most_words ≡ image_judgement bs
@@ -170,7 +173,7 @@ only-room g k size = only-unless NotRule (leb (needed g k) size) 13 0 (omega ari
 only-weights : (n : ℕ) (weights : List ℕ) → Only NotRule (weights_judgement n weights)
 unfolding weights_judgement
 only-weights n weights =
-    let one : (c : Bool) (p : ℕ) → Only NotRule (refuse_unless c 12 p) = λ c p. only-unless NotRule c 12 p (omega arith, omega arith) in
+    let one : (c : Bool) (p : ℕ) → Only NotRule (refuse_unless c WrongWeights p) = λ c p. only-unless NotRule c 12 p (omega arith, omega arith) in
     only-otherwise NotRule _ _ (one (eqb (length weights) (2 ^ n)) 0)
     (only-otherwise NotRule _ _
     (only-lowest NotRule (weight_judgement weights) (length weights) (λ q. one (leb (get_or weights q 0) largest_weight) q))

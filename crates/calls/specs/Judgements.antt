@@ -2,8 +2,8 @@
 -- 12; and, of document 02, 15, 16, 17 of card 1, 21 of card 7, and 22 of card 8: after 7 for the same gate, after 11 in a call.
 use Rattle.std.specs.Prelude.{ℕ, ◌-◌, ◌^◌, ◌≤◌, ◌<◌, false, not, ◌&&◌, List, ◌≡◌, leb, ltb, eqb, length, get_or}
 use Rattle.lists.specs.Lists.{all_zero}
-use Rattle.refusal.specs.declared.Judgement.{Judgement}
-use Rattle.refusal.specs.declared.Judgement.TheVariants.{Fine}
+use Rattle.refusal.specs.Judgement.{Judgement}
+use Rattle.refusal.specs.Judgement.{Fine}
 use Rattle.refusal.specs.Judgement.{refuse_unless, otherwise, lowest, word_judgement}
 use Rattle.netlist.specs.declared.Method.{Method}
 use Rattle.area.specs.Layout.{largest_weight, most_listed, inputs, gates, outputs, needed}
@@ -12,6 +12,7 @@ use Rattle.live.specs.Shared.{shared_judgement}
 use Rattle.image.specs.Image.{image_length, image_gates, image_outputs}
 use Rattle.image.specs.Refusals.{flip_refusal, image_refusal}
 use Rattle.image.specs.Netlist.{image_net}
+use Rattle.refusal.specs.declared.Cause.TheVariants.{NotThere, WrongWeights, ListLength, ListedPattern, CountSlice, WrittenSlice}
 
 -- the calls that are lent an area, with their other arguments
 pub data Call : Type 0 where
@@ -28,7 +29,7 @@ pub data Call : Type 0 where
 
 -- 10: a call names an input or a gate that does not exist
 abbrev pub named : ℕ → ℕ → Judgement
-named x count = refuse_unless (ltb x count) 10 x
+named x count = refuse_unless (ltb x count) NotThere x
 
 -- 11: the flip that a call gives would get 7 in an image; then 22
 abbrev pub flip_judgement : ℕ → ℕ → List ℕ → Judgement
@@ -36,12 +37,12 @@ flip_judgement g kind field = flip_refusal 11 g kind field
 
 -- 12: not one weight for each pattern, else the lowest that is too large, else none but zeros
 abbrev pub weight_judgement : List ℕ → ℕ → Judgement
-weight_judgement weights = word_judgement weights largest_weight 12
+weight_judgement weights = word_judgement weights largest_weight WrongWeights
 
 unfoldable pub weights_judgement : ℕ → List ℕ → Judgement
 weights_judgement n weights =
-    otherwise (refuse_unless (eqb (length weights) (2 ^ n)) 12 0)
-    (otherwise (lowest (weight_judgement weights) (length weights)) (refuse_unless (not (all_zero weights)) 12 0))
+    otherwise (refuse_unless (eqb (length weights) (2 ^ n)) WrongWeights 0)
+    (otherwise (lowest (weight_judgement weights) (length weights)) (refuse_unless (not (all_zero weights)) WrongWeights 0))
 
 -- what is known of weights that pass
 pub record WeightsFit (n : ℕ) (weights : List ℕ) : Type 0 where
@@ -51,16 +52,16 @@ pub record WeightsFit (n : ℕ) (weights : List ℕ) : Type 0 where
 
 -- 15: an empty list or one that is too long; else 16: the lowest position of a pattern that the inputs cannot have; else 17: fewer counts than gates
 abbrev pub listed_judgement : ℕ → List ℕ → ℕ → Judgement
-listed_judgement n patterns = word_judgement patterns (2 ^ n - 1) 16
+listed_judgement n patterns = word_judgement patterns (2 ^ n - 1) ListedPattern
 
 unfoldable pub counts_judgement : ℕ → ℕ → List ℕ → ℕ → Judgement
 counts_judgement n g patterns slots =
-    otherwise (refuse_unless (leb 1 (length patterns) && leb (length patterns) most_listed) 15 0)
-    (otherwise (lowest (listed_judgement n patterns) (length patterns)) (refuse_unless (leb g slots) 17 0))
+    otherwise (refuse_unless (leb 1 (length patterns) && leb (length patterns) most_listed) ListLength 0)
+    (otherwise (lowest (listed_judgement n patterns) (length patterns)) (refuse_unless (leb g slots) CountSlice 0))
 
 -- 21: a slice shorter than the image of g gates and k outputs
 abbrev pub slice_judgement : ℕ → ℕ → ℕ → Judgement
-slice_judgement g k room = refuse_unless (leb (image_length g k) room) 21 0
+slice_judgement g k room = refuse_unless (leb (image_length g k) room) WrittenSlice 0
 
 -- opening an image into an area of `size` words
 unfoldable pub open_judgement : List ℕ → ℕ → Judgement

@@ -4,8 +4,8 @@
 -- `SheetsHold` says that the definitions give the table; proofs/Sheets.antt proves it.
 use Rattle.std.specs.Prelude.{ℕ, ◌+◌, ◌-◌, ◌*◌, ◌/◌, ◌%◌, ◌^◌, List, [], ◌∷◌, ◌++◌, map, ◌≡◌, replicate}
 use Rattle.lists.specs.Lists.{joined}
-use Rattle.refusal.specs.declared.Judgement.{Judgement}
-use Rattle.refusal.specs.declared.Judgement.TheVariants.{Fine, Refused}
+use Rattle.refusal.specs.Judgement.{Judgement}
+use Rattle.refusal.specs.Judgement.{Fine, refused}
 use Rattle.refusal.specs.Judgement.{unless_refused}
 use Rattle.chance.specs.declared.FlipUnits.{FlipUnits}
 use Rattle.chance.specs.declared.FlipUnits.TheVariants.{Units, AboveHalf}
@@ -192,7 +192,7 @@ accepted image live reliabilities average failures exact parts =
 
 abbrev pub refused : List ℕ → ℕ → ℕ → ℕ → Opening
 refused image live number place =
-    record { image = image; judged = Refused number place; live = live; reliabilities = []; average = 0; failures = []; exact = []; parts = 1 }
+    record { image = image; judged = refused number place; live = live; reliabilities = []; average = 0; failures = []; exact = []; parts = 1 }
 
 -- image, live gates, reliabilities, average, failures, exact sums of so many parts
 abbrev pub openings : List Opening

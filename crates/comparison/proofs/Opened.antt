@@ -4,8 +4,8 @@ use mathlib.Core.List.{List, [], ◌++◌}
 use mathlib.Core.Path.{◌≡◌, refl, sym, ap, ◌∙◌}
 use native.Mathlib.Omega.{arith}
 use lib.ListN.{length, drop, length-replicate}
-use Rattle.refusal.specs.declared.Judgement.{Judgement}
-use Rattle.refusal.specs.declared.Judgement.TheVariants.{Fine, Refused}
+use Rattle.refusal.specs.Judgement.{Judgement}
+use Rattle.refusal.specs.Judgement.{Fine, refused}
 use Rattle.bound.specs.Sharp.{error_halves}
 use Rattle.area.specs.Layout.{most_words, most_inputs, inputs, gates, outputs, needed}
 use Rattle.area.specs.Rules.{Workable}
@@ -35,11 +35,12 @@ use Rattle.bench.proofs.Answered.{open_told}
 use Rattle.comparison.specs.declared.Module.{Module}
 use Rattle.comparison.specs.declared.ModuleRead.TheVariants.{Done as ModuleDone, Refused as ModuleRefused}
 use Rattle.comparison.specs.Images.{new_area, opened_words, module_read}
+use Rattle.refusal.specs.declared.Cause.{Cause}
 
 pub module-told : (j : Judgement) (m : Module)
-    → ((k : Module) → module_read j m ≡ ModuleDone k → (j ≡ Fine) × (k ≡ m)) × ((a p : ℕ) → module_read j m ≡ ModuleRefused a p → j ≡ Refused a p)
+    → ((k : Module) → module_read j m ≡ ModuleDone k → (j ≡ Fine) × (k ≡ m)) × ((a : Cause) (p : ℕ) → module_read j m ≡ ModuleRefused a p → j ≡ refused a p)
 module-told Fine m = (λ k e. (refl, cc), λ a p e. cc)
-module-told (Refused b q) m = (λ k e. (cc, cc), λ a p e. cc)
+module-told (refused b q) m = (λ k e. (cc, cc), λ a p e. cc)
 
 module _ (bs : List ℕ) where
   abbrev before : List ℕ
@@ -70,7 +71,7 @@ module _ (bs : List ℕ) where
       (sym judged ∙ both.0, both.1)
 
   pub opened-refused : (answer : Opened) (a p : ℕ) → answer ≡ opened (open_judgement bs (length new_area)) (open_live bs) → answer ≡ OpenRefused a p
-      → image_judgement bs ≡ Refused a p
+      → image_judgement bs ≡ refused a p
   opened-refused answer a p e told = sym judged ∙ (open_told (open_judgement bs (length new_area)) (open_live bs)).1 a p (sym e ∙ told)
 
   pub opened-left : image_judgement bs ≡ Fine → left new_area (open_image bs) ≡ opened_words bs

@@ -1,7 +1,7 @@
 -- What two images are compared by: each is opened into an area of zeros that holds every netlist, and averaged there with weight 1 for every pattern.
 use Rattle.std.specs.Prelude.{ℕ, ◌^◌, List, replicate}
-use Rattle.refusal.specs.declared.Judgement.{Judgement}
-use Rattle.refusal.specs.declared.Judgement.TheVariants.{Fine, Refused}
+use Rattle.refusal.specs.Judgement.{Judgement}
+use Rattle.refusal.specs.Judgement.{Fine, refused}
 use Rattle.bound.specs.Sharp.{error_halves}
 use Rattle.area.specs.Layout.{most_words}
 use Rattle.image.specs.Image.{image_inputs, image_gates, image_outputs}
@@ -17,6 +17,7 @@ use Rattle.comparison.specs.declared.ModuleRead.TheVariants.{Done as ModuleDone,
 use Rattle.comparison.specs.declared.Compared.{Compared}
 use Rattle.comparison.specs.declared.Compared.TheVariants.{Refused as CompareRefused}
 use Rattle.comparison.specs.Standing.{answered}
+use Rattle.std.specs.Prelude.{Err}
 
 -- the words that opening leaves in an area of so many zeros
 abbrev pub new_area : List ℕ
@@ -50,17 +51,17 @@ module_of bs =
 -- the answer about one image
 abbrev pub error_read : Judgement → ℕ → ℕ → ErrorRead
 error_read Fine halves live = ErrorDone halves live
-error_read (Refused number place) halves live = ErrorRefused number place
+error_read (Err why) halves live = ErrorErr why
 
 abbrev pub module_read : Judgement → Module → ModuleRead
 module_read Fine m = ModuleDone m
-module_read (Refused number place) m = ModuleRefused number place
+module_read (refused number place) m = ModuleRefused number place
 
 -- the answer about two: the first image is judged before the second
 abbrev pub compared_if : Judgement → Judgement → Compared → Compared
 compared_if Fine Fine answer = answer
-compared_if Fine (Refused number place) answer = CompareRefused SecondImage number place
-compared_if (Refused number place) other answer = CompareRefused FirstImage number place
+compared_if Fine (Err why) answer = CompareRefused SecondImage why.cause why.place
+compared_if (Err why) other answer = CompareRefused FirstImage why.cause why.place
 
 abbrev pub compared : List ℕ → List ℕ → Compared
 compared bs cs = compared_if (image_judgement bs) (image_judgement cs) (answered (module_of bs) (figures_of bs) (module_of cs) (figures_of cs))

@@ -2,8 +2,8 @@
 use Prim.Native.Nat.{ℕ}
 use mathlib.Core.List.{List}
 use mathlib.Core.Path.{◌≡◌, refl}
-use Rattle.refusal.specs.declared.Judgement.{Judgement}
-use Rattle.refusal.specs.declared.Judgement.TheVariants.{Fine, Refused}
+use Rattle.refusal.specs.Judgement.{Judgement}
+use Rattle.refusal.specs.Judgement.{Fine, refused}
 use Rattle.calls.specs.Judgements.{image_judgement}
 use Rattle.comparison.specs.declared.Verdict.{Verdict}
 use Rattle.comparison.specs.declared.Module.{Module}
@@ -12,6 +12,7 @@ use Rattle.comparison.specs.declared.Compared.{Compared}
 use Rattle.comparison.specs.declared.Compared.TheVariants.{Done}
 use Rattle.comparison.specs.Standing.{averages_verdict, patterns_between, answered}
 use Rattle.comparison.specs.Images.{figures_of, module_of, compared_if, compared}
+use Rattle.std.specs.Prelude.{Err}
 
 pub record Told (bs cs : List ℕ) (v : Verdict) (m k : Module) (p : Patterns) : Type 0 where
   pub first_fine : image_judgement bs ≡ Fine
@@ -24,8 +25,8 @@ pub record Told (bs cs : List ℕ) (v : Verdict) (m k : Module) (p : Patterns) :
 both-fine : (i j : Judgement) (answer : Compared) (v : Verdict) (m k : Module) (p : Patterns) → compared_if i j answer ≡ Done v m k p
     → (i ≡ Fine) × (j ≡ Fine) × (answer ≡ Done v m k p)
 both-fine Fine Fine answer v m k p e = (refl, refl, e)
-both-fine Fine (Refused a b) answer v m k p e = (cc, cc, cc)
-both-fine (Refused a b) j answer v m k p e = (cc, cc, cc)
+both-fine Fine (Err why) answer v m k p e = (cc, cc, cc)
+both-fine (Err why) j answer v m k p e = (cc, cc, cc)
 
 parts : (v w : Verdict) (m n k l : Module) (p q : Patterns) → Done v m k p ≡ Done w n l q → (v ≡ w) × (m ≡ n) × (k ≡ l) × (p ≡ q)
 parts v w m n k l p q e = (cc, cc, cc, cc)

@@ -8,7 +8,7 @@ use native.Mathlib.Omega.{arith}
 use lib.ListN.{length, replicate, length-replicate, get_or-replicate}
 use lib.Pow.{pow_pos}
 use Rattle.lists.specs.Lists.{all_zero}
-use Rattle.refusal.specs.declared.Judgement.TheVariants.{Fine}
+use Rattle.refusal.specs.Judgement.{Fine}
 use Rattle.rounding.specs.Rounding.{units_in_one, Near}
 use Rattle.chance.specs.Number.{chance_scale}
 use Rattle.decimals.specs.Decimals.{parts_in_one}

@@ -9,8 +9,8 @@ use native.Mathlib.Omega.{arith}
 use borrow.Author.Tests.{eqb-true, eq-eqb, ne_eqb}
 use lib.Dec.{eqb}
 use Rattle.lists.proofs.Sums.{sum_same}
-use Rattle.refusal.specs.declared.Judgement.{Judgement}
-use Rattle.refusal.specs.declared.Judgement.TheVariants.{Fine, Refused}
+use Rattle.refusal.specs.Judgement.{Judgement}
+use Rattle.refusal.specs.Judgement.{Fine, refused}
 use Rattle.refusal.proofs.Laws.{refused-not-fine}
 use Rattle.figure.specs.Figure.{bit_of}
 use Rattle.calls.specs.Judgements.{image_judgement}
@@ -26,6 +26,7 @@ use Rattle.comparison.specs.Images.{figures_of, module_of, compared_if}
 use Rattle.comparison.proofs.Deciding.{counts-are}
 use Rattle.comparison_meaning.specs.Statements.{swap_verdict, swap_patterns, swapped, SwapSwaps, SelfUndecided}
 use Rattle.comparison_meaning.proofs.Verdicts.{swap-verdict, same-undecided}
+use Rattle.std.specs.Prelude.{Err}
 
 -- ---- verdicts of all patterns
 
@@ -94,9 +95,9 @@ module _ (m k : Module) where
 
 swap-refused : (i j : Judgement) (x y : Compared) → (i ≡ Fine) ⊎ (j ≡ Fine) → y ≡ swapped x → compared_if j i y ≡ swapped (compared_if i j x)
 swap-refused Fine Fine x y some e = e
-swap-refused Fine (Refused a p) x y some e = refl
-swap-refused (Refused a p) Fine x y some e = refl
-swap-refused (Refused a p) (Refused b q) x y some e = ⊎_elim (λ f. refused-not-fine a p f) (λ f. refused-not-fine b q f) some
+swap-refused Fine (Err why) x y some e = refl
+swap-refused (Err why) Fine x y some e = refl
+swap-refused (Err why) (Err why2) x y some e = ⊎_elim (λ f. refused-not-fine why.cause why.place f) (λ f. refused-not-fine why2.cause why2.place f) some
 
 pub swap-swaps : SwapSwaps
 swap-swaps bs cs some =

@@ -1,7 +1,7 @@
 -- What is promised of a comparison beside the calls' equations. proofs/ proves it.
 use Rattle.std.specs.Prelude.{ℕ, ◌+◌, ◌*◌, ◌^◌, ◌≤◌, ◌<◌, Bool, true, List, ◌⊎◌, ◌≡◌, ltb}
 use Rattle.lists.specs.Lists.{sum_below}
-use Rattle.refusal.specs.declared.Judgement.TheVariants.{Fine}
+use Rattle.refusal.specs.Judgement.{Fine}
 use Rattle.rounding.specs.Rounding.{units_in_one, Near}
 use Rattle.decimals.specs.Decimals.{parts_in_one, shown_parts, shown_error}
 use Rattle.decimals.specs.Statements.{WithinParts}
@@ -135,7 +135,7 @@ swap_image SecondImage = FirstImage
 
 abbrev pub swapped : Compared → Compared
 swapped (Done v m k p) = Done (swap_verdict v) k m (swap_patterns p)
-swapped (Refused image number place) = Refused (swap_image image) number place
+swapped (refused image number place) = refused (swap_image image) number place
 
 -- unless both are refused, when the image that came first is named
 abbrev pub SwapSwaps : Type 0

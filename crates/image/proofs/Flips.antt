@@ -9,9 +9,10 @@ use Rattle.chance.specs.Number.{at_most_half}
 use Rattle.chance.specs.Flip.{flip_accepted, flip_chance, flip_units, read_units}
 use Rattle.chance.proofs.Laws.{units-accepted, units-above, units-refused, low-units}
 use Rattle.area.specs.Layout.{largest_flip}
-use Rattle.refusal.specs.declared.Judgement.TheVariants.{Fine, Refused}
+use Rattle.refusal.specs.Judgement.{Fine, refused}
 use Rattle.refusal.proofs.Laws.{unless-fine, otherwise-fine, Only, NotRule, only-unless, only-otherwise}
 use Rattle.image.specs.Refusals.{flip_refusal}
+use Rattle.refusal.specs.declared.Cause.TheVariants.{ChanceAboveHalf}
 
 module _ (bad j kind : ℕ) (field : List ℕ) where
   -- a flip that passes
@@ -32,11 +33,11 @@ module _ (bad j kind : ℕ) (field : List ℕ) where
       let said = units-accepted kind field units e in
       (flip-passes said.0 said.1, said.2, omega (arith, said.2, low-units kind field said.1))
 
-  pub flip-above : read_units kind field ≡ AboveHalf → flip_refusal bad j kind field ≡ Refused 22 j
+  pub flip-above : read_units kind field ≡ AboveHalf → flip_refusal bad j kind field ≡ refused ChanceAboveHalf j
   unfolding flip_refusal
   flip-above e = let said = units-above kind field e in rw (said.0, said.1) refl
 
-  pub flip-bad : read_units kind field ≡ NoUnits → flip_refusal bad j kind field ≡ Refused bad j
+  pub flip-bad : read_units kind field ≡ NoUnits → flip_refusal bad j kind field ≡ refused bad j
   unfolding flip_refusal
   flip-bad e = rw (units-refused kind field e) refl
 

@@ -11,9 +11,10 @@ use Rattle.image.specs.Image.{known_format, image_inputs, image_gates, image_out
 use Rattle.image.specs.Image.{record_count, record_kind, record_table, record_pins, record_field, output_at}
 use Rattle.image.specs.Refusals.{length_right, back_right, trailer_refusal, gate_refusal, output_refusal, middle_refusal, image_refusal}
 use Rattle.image.proofs.Flips.{only-flip}
+use Rattle.refusal.specs.declared.Cause.{Cause}
 
 -- a condition that gives one of these numbers
-given : (c : Bool) (a p : ℕ) → NotRule a → Only NotRule (refuse_unless c a p)
+given : (c : Bool) (a : Cause) (p : ℕ) → NotRule a → Only NotRule (refuse_unless c a p)
 given c a p = only-unless NotRule c a p
 
 only-gate : (m : List ℕ) (n j : ℕ) → Only NotRule (gate_refusal m n j)

@@ -6,10 +6,11 @@ use lib.ListN.{length}
 use lib.Seq.{sets, length-sets}
 use Rattle.lists.specs.Lists.{joined}
 use Rattle.lists.proofs.Joined.{joined-turn}
-use Rattle.refusal.specs.declared.Judgement.{Judgement}
-use Rattle.refusal.specs.declared.Judgement.TheVariants.{Fine, Refused}
+use Rattle.refusal.specs.Judgement.{Judgement}
+use Rattle.refusal.specs.Judgement.{Fine, refused}
 use Rattle.refusal.specs.Judgement.{lowest, otherwise}
 use Rattle.refusal.proofs.Laws.{lowest-more, lowest-refused, otherwise-first, refused-not-fine}
+use Rattle.refusal.specs.declared.Cause.{Cause}
 
 -- before place j: of the words l those from base on are now those of the places passed, and none of these is refused
 pub record Passed (f : ℕ → Judgement) (g : ℕ → List ℕ) (base : ℕ) (l : List ℕ) (j : ℕ) (ws : List ℕ) : Type 0 where
@@ -35,8 +36,8 @@ module _ {f : ℕ → Judgement} {g : ℕ → List ℕ} {base j : ℕ} {l ws : L
         stored = stored;
       }
 
-  pub stops : (k a p : ℕ) (r : Judgement) (new : List ℕ) → j < k → r ≡ f j → r ≡ Refused a p
-      → Answered (lowest f k) l base (joined g k) (Refused a p) new
+  pub stops : (k : ℕ) (a : Cause) (p : ℕ) (r : Judgement) (new : List ℕ) → j < k → r ≡ f j → r ≡ refused a p
+      → Answered (lowest f k) l base (joined g k) (refused a p) new
   stops k a p r new below step told =
       (sym (lowest-refused f k j a p below passed.fine (sym step ∙ told)), refused-not-fine a p)
 
@@ -44,5 +45,5 @@ module _ {f : ℕ → Judgement} {g : ℕ → List ℕ} {base j : ℕ} {l ws : L
   ends k e = (rw e at (sym passed.fine), λ q. rw e at passed.stored)
 
 -- a first part that is refused
-pub first-refused : {A : Type 0} (v w r : Judgement) (a p : ℕ) → r ≡ v → r ≡ Refused a p → (Refused a p ≡ otherwise v w) × (Refused a p ≡ Fine → A)
+pub first-refused : {A : Type 0} (v w r : Judgement) (a : Cause) (p : ℕ) → r ≡ v → r ≡ refused a p → (refused a p ≡ otherwise v w) × (refused a p ≡ Fine → A)
 first-refused v w r a p e told = (sym (otherwise-first v w a p (sym e ∙ told)), refused-not-fine a p)

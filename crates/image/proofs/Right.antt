@@ -9,7 +9,7 @@ use lib.ListN.{get_or}
 use Rattle.chance.specs.Number.{at_most_half}
 use Rattle.chance.specs.Flip.{flip_accepted, flip_chance}
 use Rattle.rules.proofs.Facts.{both, counts_hold, Shape, shape-holds, used-holds}
-use Rattle.refusal.specs.declared.Judgement.TheVariants.{Fine}
+use Rattle.refusal.specs.Judgement.{Fine}
 use Rattle.refusal.proofs.Laws.{unless-fine, otherwise-fine, lowest-fine}
 use Rattle.image.specs.Image.{image_inputs, image_gates, image_outputs}
 use Rattle.image.specs.Image.{middle, record_count, record_kind, record_table, record_pins, record_field, output_at}

@@ -12,7 +12,7 @@ use Rattle.chance.proofs.Laws.{flip-chance-at-most, low-units}
 use Rattle.area.specs.Layout.{pins, flip, largest_flip, reserved_word}
 use Rattle.area.specs.Rules.{GateShaped, NetSound, FiguresSound, Workable}
 use Rattle.lists.proofs.Joined.{length-listed, listed_at}
-use Rattle.refusal.specs.declared.Judgement.TheVariants.{Fine}
+use Rattle.refusal.specs.Judgement.{Fine}
 use Rattle.image.specs.Image.{image_gates, image_outputs, middle, record_kind, record_pins, record_field, output_at}
 use Rattle.image.specs.Refusals.{image_refusal}
 use Rattle.image.specs.Loading.{record_chance, record_units, middle_words, image_words, image_kinds, image_chances}

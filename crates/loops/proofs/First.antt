@@ -11,7 +11,7 @@ use lib.ListN.{get_or, set}
 use lib.Seq.{get_or-set_other}
 use lib.Dec.{eqb}
 use borrow.Author.Tests.{eqb-true}
-use Rattle.refusal.specs.declared.Judgement.TheVariants.{Fine, Refused}
+use Rattle.refusal.specs.Judgement.{Fine, refused}
 use Rattle.refusal.specs.Judgement.{lowest, refuse_unless}
 use Rattle.refusal.proofs.Laws.{fine-lowest, lowest-fine, lowest-answer, lowest-more, unless-fine}
 use Rattle.placing.specs.Placing.{Reads, Depends, via, loop_fault, left, Kept, Placed}
@@ -20,6 +20,7 @@ use Rattle.placing.proofs.Placed.{no_loop, left-none}
 use Rattle.placing.proofs.Loop.{none-ready, loop}
 use Rattle.loops.specs.Marks.{Clear, Answers}
 use Rattle.loops.proofs.Marks.{by_number}
+use Rattle.refusal.specs.declared.Cause.TheVariants.{TextModel}
 
 -- where some of k gates are left, one is not placed
 waiting-one : (place : List ℕ) (k : ℕ) → 0 < left place k → (j : ℕ) × (j < k) × (get_or place j 0 ≡ 0)
@@ -55,7 +56,7 @@ module _ (S : ℕ → List ℕ) (n g : ℕ) (known : (j i : ℕ) → j < g → R
   pub none-loops : (place order : List ℕ) → Kept S n g g place order → (line : ℕ → ℕ) → loop_fault S n g line ≡ Fine
   unfolding loop_fault
   none-loops place order kept line =
-      fine-lowest (λ (j : ℕ). refuse_unless (not (via S n g j j)) 19 (line j)) g
+      fine-lowest (λ (j : ℕ). refuse_unless (not (via S n g j j)) TextModel (line j)) g
       (λ j h. rw (no_way j (no_loop S n g g place order kept j (left-none place g (omega (arith, kept.count)) j h))))
 
   -- where no gate depends on itself all are placed
@@ -66,7 +67,7 @@ module _ (S : ℕ → List ℕ) (n g : ℕ) (known : (j i : ℕ) → j < g → R
     where
       free : (j : ℕ) → j < g → Depends S n j j → ⊥
       free j h d =
-          let no : not (via S n g j j) ≡ true = unless-fine _ 19 (line j) (lowest-fine (λ (j : ℕ). refuse_unless (not (via S n g j j)) 19 (line j)) g j h fine) in
+          let no : not (via S n g j j) ≡ true = unless-fine _ 19 (line j) (lowest-fine (λ (j : ℕ). refuse_unless (not (via S n g j j)) TextModel (line j)) g j h fine) in
           let yes_way : via S n g j j ≡ true = depends-via S n g known j j h d in
           let z : ◌≡◌ {A = Bool} false true = rw yes_way at no in
           let y : ◌≡◌ {A = ℕ} 0 1 = cc in
@@ -79,16 +80,16 @@ module _ (S : ℕ → List ℕ) (n g : ℕ) (known : (j i : ℕ) → j < g → R
           free c.at c.below c.by
 
   -- the search, gate by gate
-  pub search-stops : (line : ℕ → ℕ) (j x : ℕ) → j < g → lowest (λ (i : ℕ). refuse_unless (not (via S n g i i)) 19 (line i)) j ≡ Fine → via S n g j j ≡ true → x ≡ line j
-      → Refused 19 x ≡ loop_fault S n g line
+  pub search-stops : (line : ℕ → ℕ) (j x : ℕ) → j < g → lowest (λ (i : ℕ). refuse_unless (not (via S n g i i)) TextModel (line i)) j ≡ Fine → via S n g j j ≡ true → x ≡ line j
+      → refused TextModel x ≡ loop_fault S n g line
   unfolding loop_fault
   search-stops line j x h fine e q =
-      lowest-answer (λ (i : ℕ). refuse_unless (not (via S n g i i)) 19 (line i)) g j 19 x h fine (rw (e, q))
+      lowest-answer (λ (i : ℕ). refuse_unless (not (via S n g i i)) TextModel (line i)) g j 19 x h fine (rw (e, q))
 
-  pub search-on : (line : ℕ → ℕ) (j : ℕ) → lowest (λ (i : ℕ). refuse_unless (not (via S n g i i)) 19 (line i)) j ≡ Fine → via S n g j j ≡ false
-      → lowest (λ (i : ℕ). refuse_unless (not (via S n g i i)) 19 (line i)) (j + 1) ≡ Fine
-  search-on line j fine e = lowest-more (λ (i : ℕ). refuse_unless (not (via S n g i i)) 19 (line i)) j fine (rw e)
+  pub search-on : (line : ℕ → ℕ) (j : ℕ) → lowest (λ (i : ℕ). refuse_unless (not (via S n g i i)) TextModel (line i)) j ≡ Fine → via S n g j j ≡ false
+      → lowest (λ (i : ℕ). refuse_unless (not (via S n g i i)) TextModel (line i)) (j + 1) ≡ Fine
+  search-on line j fine e = lowest-more (λ (i : ℕ). refuse_unless (not (via S n g i i)) TextModel (line i)) j fine (rw e)
 
-  pub search-ends : (line : ℕ → ℕ) (j : ℕ) → j ≡ g → lowest (λ (i : ℕ). refuse_unless (not (via S n g i i)) 19 (line i)) j ≡ Fine → Fine ≡ loop_fault S n g line
+  pub search-ends : (line : ℕ → ℕ) (j : ℕ) → j ≡ g → lowest (λ (i : ℕ). refuse_unless (not (via S n g i i)) TextModel (line i)) j ≡ Fine → Fine ≡ loop_fault S n g line
   unfolding loop_fault
-  search-ends line j e fine = sym (subst (λ (k : ℕ). lowest (λ (i : ℕ). refuse_unless (not (via S n g i i)) 19 (line i)) k ≡ Fine) e fine)
+  search-ends line j e fine = sym (subst (λ (k : ℕ). lowest (λ (i : ℕ). refuse_unless (not (via S n g i i)) TextModel (line i)) k ≡ Fine) e fine)

@@ -10,7 +10,7 @@ use lib.ListN.{length, get_or, length-append, get_or-append}
 use lib.Seq.{get_or-append-add}
 use lib.Dec.{eqb, leb}
 use borrow.Author.Tests.{eqb-true, le-leb, lt-leb, leb-true, leb-false}
-use Rattle.refusal.specs.declared.Judgement.TheVariants.{Fine, Refused}
+use Rattle.refusal.specs.Judgement.{Fine, refused}
 use Rattle.texts.specs.Words.{Word, held, word_at}
 use Rattle.statements.specs.declared.Phase.TheVariants.{Before}
 use Rattle.statements.specs.Lines.{line_of, bytes_from, alike}
@@ -19,6 +19,7 @@ use Rattle.statements.proofs.Faults.{split}
 use Rattle.model.specs.Model.{key_of, after, word_in, names_in, listed, gates_key, no_word}
 use Rattle.model.specs.Counts.{line_at, over_fault}
 use Rattle.model.specs.Tables.{key_at, run_start, run_many, rest_at, lines_from}
+use Rattle.refusal.specs.declared.Cause.TheVariants.{TextModel}
 
 -- the words alike stand in one line
 pub alike_all : (l : List ℕ) (x i k j : ℕ) → j < alike l x i k → get_or l (i + j) 0 ≡ x
@@ -138,8 +139,8 @@ module _ (t s l : List ℕ) (a m : ℕ) (ws : List Word) (most : ℕ) where
   together : length (held t s l a m ++ ws) ≡ m + length ws
   together = omega (arith, length-append (held t s l a m) ws, held-length t s l a m)
 
-  pub over-here : most < m → over_fault (held t s l a m ++ ws) most ≡ Refused 19 (get_or l (a + most) 0)
-  over-here h = rw (lt-leb (length (held t s l a m ++ ws)) most (omega (arith, together))) (ap (Refused 19) line)
+  pub over-here : most < m → over_fault (held t s l a m ++ ws) most ≡ refused TextModel (get_or l (a + most) 0)
+  over-here h = rw (lt-leb (length (held t s l a m ++ ws)) most (omega (arith, together))) (ap (refused TextModel) line)
     where
       line : line_at (held t s l a m ++ ws) most ≡ get_or l (a + most) 0
       line =
@@ -168,12 +169,12 @@ module _ (t s l : List ℕ) (a m : ℕ) (ws : List Word) (most : ℕ) where
 
 -- a line with too many names, and one that leaves room
 module _ (t s l : List ℕ) (n k r : ℕ) (inside : k < n) (rest : r ≡ rest_at l n k) (wanted m : ℕ) (run : m ≡ run_many (key_at t s k) wanted r) (most : ℕ) where
-  pub refuse-here : most < m → over_fault (listed wanted (lines_from t s l n k)) most ≡ Refused 19 (get_or l k 0)
+  pub refuse-here : most < m → over_fault (listed wanted (lines_from t s l n k)) most ≡ refused TextModel (get_or l k 0)
   refuse-here h =
       let low : most < run_many (key_at t s k) wanted r = rw run at h in
       rw (listed-run t s l n k r inside rest wanted)
       (over-here t s l (run_start wanted k r) (run_many (key_at t s k) wanted r) (listed wanted (lines_from t s l n (k + (r + 1)))) most low
-      ∙ ap (Refused 19) (run-line t s l n k r inside rest wanted most low))
+      ∙ ap (refused TextModel) (run-line t s l n k r inside rest wanted most low))
 
   pub refuse-later : m ≤ most → over_fault (listed wanted (lines_from t s l n k)) most ≡ over_fault (listed wanted (lines_from t s l n (k + (r + 1)))) (most - m)
   refuse-later h =

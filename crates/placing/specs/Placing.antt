@@ -4,8 +4,9 @@
 use Rattle.std.specs.Prelude.{ℕ, zero, suc, ◌+◌, ◌-◌, ◌*◌, ◌<◌, ◌≤◌, Bool, true, false, cond, not, ◌||◌, ◌&&◌, ◌≡◌, length, get_or, set, eqb, ltb}
 use mathlib.Core.List.{List, [], ◌∷◌, Memᴰ}
 use Rattle.area.specs.Layout.{most_pins, most_inputs, most_gates}
-use Rattle.refusal.specs.declared.Judgement.{Judgement}
+use Rattle.refusal.specs.Judgement.{Judgement}
 use Rattle.refusal.specs.Judgement.{refuse_unless, lowest}
+use Rattle.refusal.specs.declared.Cause.TheVariants.{TextModel}
 
 -- a source is placed: an input, or a placed gate
 abbrev pub placed_source : ℕ → List ℕ → ℕ → Bool
@@ -68,7 +69,7 @@ via S n (suc k) j i = via S n k j i || (via S n k j k && via S n k k i)
 
 -- refusal 19, its last test: the first gate that depends on itself, at its line
 unfoldable pub loop_fault : (ℕ → List ℕ) → ℕ → ℕ → (ℕ → ℕ) → Judgement
-loop_fault S n g line = lowest (λ (j : ℕ). refuse_unless (not (via S n g j j)) 19 (line j)) g
+loop_fault S n g line = lowest (λ (j : ℕ). refuse_unless (not (via S n g j j)) TextModel (line j)) g
 
 -- k entries of a table from entry i on, and the sources of gate j: as many entries for each gate as it may have, of which its count are used
 abbrev pub entries : List ℕ → ℕ → ℕ → List ℕ

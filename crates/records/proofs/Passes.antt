@@ -9,7 +9,7 @@ use lib.Seq.{get_or-drop, drop-drop, drop_at}
 use borrow.Author.Tests.{lt-ltb}
 use Rattle.lists.proofs.Joined.{drop-joined}
 use Rattle.rules.proofs.Facts.{Shape, shape-passes, used-passes}
-use Rattle.refusal.specs.declared.Judgement.TheVariants.{Fine}
+use Rattle.refusal.specs.Judgement.{Fine}
 use Rattle.refusal.proofs.Laws.{fine-lowest}
 use Rattle.chance.specs.Number.{at_most_half}
 use Rattle.chance.specs.Flip.{flip_accepted, flip_chance}

@@ -9,7 +9,7 @@ use lib.ListN.{length, get_or, take, drop, length-append}
 use lib.Seq.{get_or-append-add, take_at}
 use borrow.Author.Tests.{le-leb, eq-eqb}
 use Rattle.rules.proofs.Facts.{join, counts-pass}
-use Rattle.refusal.specs.declared.Judgement.TheVariants.{Fine}
+use Rattle.refusal.specs.Judgement.{Fine}
 use Rattle.chance.specs.Flip.{four_bytes}
 use Rattle.image.specs.Image.{u16_at, u32_at, middle_bytes, image_length, trailer_at}
 use Rattle.image.specs.Image.{image_inputs, image_gates, image_outputs, image_format, image_back, image_total, middle}

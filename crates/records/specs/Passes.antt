@@ -1,6 +1,6 @@
 -- What is promised of a written image: it passes refusals 1 to 8 and 22, and opening reads from it what was written.
 use Rattle.std.specs.Prelude.{ℕ, ◌+◌, ◌^◌, ◌<◌, ◌≤◌, true, List, [], ◌∷◌, ◌≡◌, length, get_or}
-use Rattle.refusal.specs.declared.Judgement.TheVariants.{Fine}
+use Rattle.refusal.specs.Judgement.{Fine}
 use Rattle.lists.specs.Lists.{Below}
 use Rattle.netlist.specs.Netlist.{Netlist, gate_at}
 use Rattle.netlist.specs.WellFormed.{PinsBelow}

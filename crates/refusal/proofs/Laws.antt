@@ -7,37 +7,39 @@ use mathlib.Core.Logic.{◌≢◌, ⊎_elim}
 use native.Mathlib.Numerals.{add-one}
 use native.Mathlib.Omega.{arith}
 use native.Mathlib.Nat.{not-suc-le-zero, eq-or-lt_of_le}
-use Rattle.refusal.specs.declared.Judgement.{Judgement}
-use Rattle.refusal.specs.declared.Judgement.TheVariants.{Fine, Refused}
-use Rattle.refusal.specs.Judgement.{refuse_unless, otherwise, lowest}
+use Rattle.refusal.specs.Judgement.{Judgement}
+use Rattle.refusal.specs.Judgement.{Fine, refused}
+use Rattle.refusal.specs.Judgement.{refuse_unless, otherwise, lowest, number_of}
+use Rattle.refusal.specs.declared.Cause.{Cause}
+use Rattle.std.specs.Prelude.{Err}
 
 -- no judgement is both
-pub never_both : {A : Type 0} (v : Judgement) (a p : ℕ) → v ≡ Fine → v ≡ Refused a p → A
+pub never_both : {A : Type 0} (v : Judgement) (a : Cause) (p : ℕ) → v ≡ Fine → v ≡ refused a p → A
 never_both v a p e f = let z : ◌≡◌ {A = ℕ} 0 1 = cc in absurd (omega arith)
 
-pub refused-not-fine : {A : Type 0} (a p : ℕ) → Refused a p ≡ Fine → A
+pub refused-not-fine : {A : Type 0} (a : Cause) (p : ℕ) → refused a p ≡ Fine → A
 refused-not-fine a p e = never_both Fine a p refl (sym e)
 
 -- no refusal of a whole means none of its parts
-pub unless-fine : (b : Bool) (a p : ℕ) → refuse_unless b a p ≡ Fine → b ≡ true
+pub unless-fine : (b : Bool) (a : Cause) (p : ℕ) → refuse_unless b a p ≡ Fine → b ≡ true
 unless-fine true a p e = refl
 unless-fine false a p e = cc
 
 pub otherwise-fine : (v w : Judgement) → otherwise v w ≡ Fine → (v ≡ Fine) × (w ≡ Fine)
 otherwise-fine Fine w e = (refl, e)
-otherwise-fine (Refused a p) w e = refused-not-fine a p e
+otherwise-fine (Err why) w e = refused-not-fine why.cause why.place e
 
 -- a first part without a refusal leaves the second
 pub otherwise-second : (v w : Judgement) → v ≡ Fine → otherwise v w ≡ w
 otherwise-second v w e = rw e
 
-pub otherwise-first : (v w : Judgement) (a p : ℕ) → v ≡ Refused a p → otherwise v w ≡ Refused a p
+pub otherwise-first : (v w : Judgement) (a : Cause) (p : ℕ) → v ≡ refused a p → otherwise v w ≡ refused a p
 otherwise-first v w a p e = rw e
 
 -- which parts are taken together does not matter
 pub otherwise-assoc : (u v w : Judgement) → otherwise u (otherwise v w) ≡ otherwise (otherwise u v) w
 otherwise-assoc Fine v w = refl
-otherwise-assoc (Refused a p) v w = refl
+otherwise-assoc (Err why) v w = refl
 
 module _ (f : ℕ → Judgement) where
   -- one place more without a refusal
@@ -45,14 +47,14 @@ module _ (f : ℕ → Judgement) where
   lowest-more j e h = rw (add-one j, e) h
 
   -- the first refusal is that of every longer list
-  pub lowest-refused : (k j a p : ℕ) → j < k → lowest f j ≡ Fine → f j ≡ Refused a p → lowest f k ≡ Refused a p
+  pub lowest-refused : (k j : ℕ) (a : Cause) (p : ℕ) → j < k → lowest f j ≡ Fine → f j ≡ refused a p → lowest f k ≡ refused a p
   lowest-refused zero j a p l e h = absurd (not-suc-le-zero l)
   lowest-refused (suc k) j a p l e h =
       ⊎_elim (λ (q : j ≡ k). otherwise-at (rw q at e) (rw q at h))
       (λ (q : j < k). otherwise-first (lowest f k) (f k) a p (lowest-refused k j a p q e h))
       (eq-or-lt_of_le {n = j} {m = k} (omega arith))
     where
-      otherwise-at : lowest f k ≡ Fine → f k ≡ Refused a p → otherwise (lowest f k) (f k) ≡ Refused a p
+      otherwise-at : lowest f k ≡ Fine → f k ≡ refused a p → otherwise (lowest f k) (f k) ≡ refused a p
       otherwise-at e' h' = otherwise-second (lowest f k) (f k) e' ∙ h'
 
   -- no refusal of the first k means none at each of them
@@ -69,7 +71,7 @@ module _ (f : ℕ → Judgement) where
       otherwise-second (lowest f k) (f k) (fine-lowest k (λ j l. h j (omega arith))) ∙ h k (omega arith)
 
   -- the answer of a loop that stops at its first refusal
-  pub lowest-answer : (k j a p : ℕ) → j < k → lowest f j ≡ Fine → f j ≡ Refused a p → Refused a p ≡ lowest f k
+  pub lowest-answer : (k j : ℕ) (a : Cause) (p : ℕ) → j < k → lowest f j ≡ Fine → f j ≡ refused a p → refused a p ≡ lowest f k
   lowest-answer k j a p l e h = sym (lowest-refused k j a p l e h)
 
 -- judgements that agree at the first k places
@@ -79,22 +81,22 @@ lowest-same f g (suc k) h = ap₂ otherwise (lowest-same f g k (λ j l. h j (ome
 
 -- the numbers that a judgement may give: of those that its parts may give
 abbrev pub Only : (ℕ → Type 0) → Judgement → Type 0
-Only P v = (number place : ℕ) → v ≡ Refused number place → P number
+Only P v = (cause : Cause) (place : ℕ) → v ≡ refused cause place → P (number_of cause)
 
 pub only-fine : (P : ℕ → Type 0) → Only P Fine
-only-fine P number place e = never_both Fine number place refl e
+only-fine P cause place e = never_both Fine cause place refl e
 
-abbrev number_of : Judgement → ℕ
-number_of Fine = 0
-number_of (Refused number place) = number
+abbrev number_in : Judgement → ℕ
+number_in Fine = 0
+number_in (Err why) = number_of why.cause
 
-pub only-unless : (P : ℕ → Type 0) (c : Bool) (a p : ℕ) → P a → Only P (refuse_unless c a p)
+pub only-unless : (P : ℕ → Type 0) (c : Bool) (a : Cause) (p : ℕ) → P (number_of a) → Only P (refuse_unless c a p)
 only-unless P true a p h = only-fine P
-only-unless P false a p h = λ number place e. subst P (ap number_of e) h
+only-unless P false a p h = λ cause place e. subst P (ap number_in e) h
 
 pub only-otherwise : (P : ℕ → Type 0) (v w : Judgement) → Only P v → Only P w → Only P (otherwise v w)
 only-otherwise P Fine w first second = second
-only-otherwise P (Refused a p) w first second = first
+only-otherwise P (Err why) w first second = first
 
 pub only-lowest : (P : ℕ → Type 0) (f : ℕ → Judgement) (k : ℕ) → ((i : ℕ) → Only P (f i)) → Only P (lowest f k)
 only-lowest P f zero each = only-fine P

@@ -9,7 +9,7 @@ use native.Mathlib.Numerals.{add-one}
 use native.Mathlib.Omega.{arith}
 use lib.ListN.{length, get_or, drop, take, set, length-set}
 use lib.Seq.{get_or-set_same, get_or-set_other}
-use Rattle.refusal.specs.declared.Judgement.TheVariants.{Fine}
+use Rattle.refusal.specs.Judgement.{Fine}
 use Rattle.refusal.specs.Judgement.{lowest}
 use Rattle.refusal.proofs.Laws.{lowest-more}
 use Rattle.texts.specs.Words.{Word, word_of, held}

@@ -11,7 +11,7 @@ use lib.ListN.{length, get_or, drop, set, length-set}
 use lib.Seq.{get_or-set_same, get_or-set_other}
 use lib.Dec.{eqb, ltb}
 use borrow.Author.Tests.{eq-eqb, ne_eqb, lt-ltb, le-ltb}
-use Rattle.refusal.specs.declared.Judgement.TheVariants.{Fine, Refused}
+use Rattle.refusal.specs.Judgement.{Fine, refused}
 use Rattle.refusal.specs.Judgement.{lowest, refuse_unless}
 use Rattle.refusal.proofs.Laws.{lowest-more, lowest-answer}
 use Rattle.texts.specs.Words.{Word, word_of, word_at, held}
@@ -21,6 +21,7 @@ use Rattle.model.specs.Counts.{line_at}
 use Rattle.model.proofs.Runs.{held-length, held_at}
 use Rattle.resolve.specs.Names.{again_at, again_fault, unknown_at, unknown_fault}
 use Rattle.resolve.specs.Found.{found_at, Found}
+use Rattle.refusal.specs.declared.Cause.TheVariants.{TextModel}
 
 -- the search in a table is the search in the list of its words
 pub before-number : (t nm nl w : List ℕ) (i k : ℕ) → before t nm w i k ≡ number (held t nm nl i k) w
@@ -37,33 +38,33 @@ before-low t nm w i (suc k) = go (same (name_at t nm i) w) refl (before-low t nm
 
 -- definitions
 module _ (t nm nl : List ℕ) (m i : ℕ) (here : i < m) where
-  again-here : again_at (held t nm nl 0 m) i ≡ refuse_unless (eqb (found_at t nm m nm i) i) 19 (get_or nl i 0)
+  again-here : again_at (held t nm nl 0 m) i ≡ refuse_unless (eqb (found_at t nm m nm i) i) TextModel (get_or nl i 0)
   again-here =
       let entry : get_or (held t nm nl 0 m) i no_word ≡ word_at t nm nl i = held_at t nm nl 0 m i here ∙ ap (word_at t nm nl) (zero-add i) in
-      ap₂ (λ (d x : ℕ). refuse_unless (eqb d i) 19 x)
+      ap₂ (λ (d x : ℕ). refuse_unless (eqb d i) TextModel x)
       (ap (λ (x : Word). number (held t nm nl 0 m) x.bytes) entry ∙ sym (before-number t nm nl (word_of (drop (get_or nm i 0) t)) 0 m))
       (ap (λ (x : Word). x.line) entry)
 
   pub again-first : found_at t nm m nm i ≡ i → again_at (held t nm nl 0 m) i ≡ Fine
   again-first e = again-here ∙ rw (eq-eqb _ _ e)
 
-  pub again-later : (found_at t nm m nm i ≡ i → ⊥) → again_at (held t nm nl 0 m) i ≡ Refused 19 (get_or nl i 0)
+  pub again-later : (found_at t nm m nm i ≡ i → ⊥) → again_at (held t nm nl 0 m) i ≡ refused TextModel (get_or nl i 0)
   again-later e = again-here ∙ rw (ne_eqb _ _ e)
 
 -- uses
 module _ (t nm nl : List ℕ) (m : ℕ) (s l : List ℕ) (start count i : ℕ) (here : i < count) where
-  unknown-here : unknown_at (held t nm nl 0 m) (held t s l start count) i ≡ refuse_unless (ltb (found_at t nm m s (start + i)) m) 19 (get_or l (start + i) 0)
+  unknown-here : unknown_at (held t nm nl 0 m) (held t s l start count) i ≡ refuse_unless (ltb (found_at t nm m s (start + i)) m) TextModel (get_or l (start + i) 0)
   unknown-here =
       let entry = held_at t s l start count i here in
-      ap (λ (k : ℕ). refuse_unless (ltb (number (held t nm nl 0 m) (get_or (held t s l start count) i no_word).bytes) k) 19 (line_at (held t s l start count) i)) (held-length t nm nl 0 m)
-      ∙ ap₂ (λ (d x : ℕ). refuse_unless (ltb d m) 19 x)
+      ap (λ (k : ℕ). refuse_unless (ltb (number (held t nm nl 0 m) (get_or (held t s l start count) i no_word).bytes) k) TextModel (line_at (held t s l start count) i)) (held-length t nm nl 0 m)
+      ∙ ap₂ (λ (d x : ℕ). refuse_unless (ltb d m) TextModel x)
       (ap (λ (x : Word). number (held t nm nl 0 m) x.bytes) entry ∙ sym (before-number t nm nl (word_of (drop (get_or s (start + i) 0) t)) 0 m))
       (ap (λ (x : Word). x.line) entry)
 
   pub known : found_at t nm m s (start + i) < m → unknown_at (held t nm nl 0 m) (held t s l start count) i ≡ Fine
   known h = unknown-here ∙ rw (lt-ltb _ _ h)
 
-  pub unknown : m ≤ found_at t nm m s (start + i) → unknown_at (held t nm nl 0 m) (held t s l start count) i ≡ Refused 19 (get_or l (start + i) 0)
+  pub unknown : m ≤ found_at t nm m s (start + i) → unknown_at (held t nm nl 0 m) (held t s l start count) i ≡ refused TextModel (get_or l (start + i) 0)
   unknown h = unknown-here ∙ rw (le-ltb _ _ h)
 
 -- what is known after i words
@@ -116,7 +117,7 @@ module _ (t nm : List ℕ) (m : ℕ) (s l : List ℕ) (start count : ℕ) (old :
 
     -- an undefined name ends it
     pub stops : (d : ℕ) → d ≡ found_at t nm m s (start + i) → d ≡ m → (ls : List ℕ)
-        → Refused 19 (get_or l (start + i) 0) ≡ unknown_fault (held t nm ls 0 m) (held t s l start count)
+        → refused TextModel (get_or l (start + i) 0) ≡ unknown_fault (held t nm ls 0 m) (held t s l start count)
     unfolding unknown_fault
     stops d e top ls =
         rw (held-length t s l start count)
@@ -130,7 +131,7 @@ module _ (t nm : List ℕ) (m : ℕ) (s l : List ℕ) (start count : ℕ) (old :
 
 -- definitions one after another
 module _ (t nm nl : List ℕ) (m i : ℕ) where
-  pub again-stops : i < m → lowest (again_at (held t nm nl 0 m)) i ≡ Fine → (found_at t nm m nm i ≡ i → ⊥) → Refused 19 (get_or nl i 0) ≡ again_fault (held t nm nl 0 m)
+  pub again-stops : i < m → lowest (again_at (held t nm nl 0 m)) i ≡ Fine → (found_at t nm m nm i ≡ i → ⊥) → refused TextModel (get_or nl i 0) ≡ again_fault (held t nm nl 0 m)
   unfolding again_fault
   again-stops here fine e =
       rw (held-length t nm nl 0 m) (lowest-answer (again_at (held t nm nl 0 m)) m i 19 (get_or nl i 0) here fine (again-later t nm nl m i here e))

@@ -1,22 +1,23 @@
 -- Refusal 19, its second and third test: a name defined twice, a name undefined.
 use Rattle.std.specs.Prelude.{ℕ, List, map, length, get_or, eqb, ltb}
-use Rattle.refusal.specs.declared.Judgement.{Judgement}
+use Rattle.refusal.specs.Judgement.{Judgement}
 use Rattle.refusal.specs.Judgement.{refuse_unless, otherwise, lowest}
 use Rattle.texts.specs.Words.{Word}
 use Rattle.statements.specs.Lines.{Line}
 use Rattle.model.specs.Model.{outputs_key, listed, defined, number, sources, gates_of, no_word, no_gate}
 use Rattle.model.specs.Counts.{line_at}
+use Rattle.refusal.specs.declared.Cause.TheVariants.{TextModel}
 
 -- definition i is its name's first
 abbrev pub again_at : List Word → ℕ → Judgement
-again_at ds i = refuse_unless (eqb (number ds (get_or ds i no_word).bytes) i) 19 (line_at ds i)
+again_at ds i = refuse_unless (eqb (number ds (get_or ds i no_word).bytes) i) TextModel (line_at ds i)
 
 unfoldable pub again_fault : List Word → Judgement
 again_fault ds = lowest (again_at ds) (length ds)
 
 -- use i names one of the definitions
 abbrev pub unknown_at : List Word → List Word → ℕ → Judgement
-unknown_at ds us i = refuse_unless (ltb (number ds (get_or us i no_word).bytes) (length ds)) 19 (line_at us i)
+unknown_at ds us i = refuse_unless (ltb (number ds (get_or us i no_word).bytes) (length ds)) TextModel (line_at us i)
 
 unfoldable pub unknown_fault : List Word → List Word → Judgement
 unknown_fault ds us = lowest (unknown_at ds us) (length us)

@@ -9,8 +9,8 @@ use lib.Dec.{leb, ltb, eqb}
 use lib.ListN.{length, drop, length-take, length-drop}
 use Rattle.lists.specs.Lists.{all_below}
 use Rattle.lists.proofs.Every.{all_hold, hold-all}
-use Rattle.refusal.specs.declared.Judgement.{Judgement}
-use Rattle.refusal.specs.declared.Judgement.TheVariants.{Fine, Refused}
+use Rattle.refusal.specs.Judgement.{Judgement}
+use Rattle.refusal.specs.Judgement.{Fine, refused}
 use Rattle.refusal.specs.Judgement.{refuse_unless, otherwise}
 use Rattle.refusal.proofs.Laws.{unless-fine, otherwise-fine, otherwise-first, otherwise-second}
 use Rattle.rounding.specs.Rounding.{units_in_one}
@@ -21,6 +21,8 @@ use Rattle.area.specs.Rules.{GateShaped, SumSound, Workable, Sound}
 use Rattle.area.specs.Sum.{flip_sum, low_bits, high_bits}
 use Rattle.rules.proofs.Facts.{both, join, shape-holds, shape-passes, used-holds, used-passes, below_holds, below-passes, counts_hold, counts-pass}
 use Rattle.rules.proofs.Parts.{none, next}
+use Rattle.refusal.specs.declared.Cause.{Cause}
+use Rattle.refusal.specs.declared.Cause.TheVariants.{AreaTooShort, AreaRule}
 
 -- a gate
 pub record GateSound (ws : List ℕ) (j : ℕ) : Type 0 where
@@ -90,10 +92,10 @@ rest-passes ws r =
 pub workable : (ws : List ℕ) → words_judgement ws ≡ Fine → Workable ws
 unfolding words_judgement
 workable ws e =
-    let counts = refuse_unless (counts_in_range (inputs ws) (gates ws) (outputs ws)) 14 0 in
+    let counts = refuse_unless (counts_in_range (inputs ws) (gates ws) (outputs ws)) AreaRule 0 in
     let room = room_judgement (gates ws) (outputs ws) (length ws) in
-    let rest = refuse_unless (rest_sound ws) 14 0 in
-    let p = otherwise-fine (refuse_unless (leb head_words (length ws)) 13 0) (otherwise counts (otherwise room rest)) e in
+    let rest = refuse_unless (rest_sound ws) AreaRule 0 in
+    let p = otherwise-fine (refuse_unless (leb head_words (length ws)) AreaTooShort 0) (otherwise counts (otherwise room rest)) e in
     let q = otherwise-fine counts (otherwise room rest) p.1 in
     let r = otherwise-fine room rest q.1 in
     let n = counts_hold (inputs ws) (gates ws) (outputs ws) (unless-fine _ 14 0 q.0) in
@@ -154,7 +156,7 @@ sum-passes ws s = join _ _ (eq-eqb _ _ s.low) (join _ _ (eq-eqb _ _ s.high) (eq-
 pub sound : (ws : List ℕ) → area_judgement ws ≡ Fine → Sound ws
 unfolding area_judgement
 sound ws e =
-    let p = otherwise-fine (words_judgement ws) (refuse_unless (sum_right ws) 14 0) e in
+    let p = otherwise-fine (words_judgement ws) (refuse_unless (sum_right ws) AreaRule 0) e in
     record { workable = workable ws p.0; sum = sum-holds ws (unless-fine (sum_right ws) 14 0 p.1) }
 
 pub sound-passes : (ws : List ℕ) → Sound ws → area_judgement ws ≡ Fine
@@ -162,11 +164,11 @@ unfolding area_judgement
 sound-passes ws s = otherwise-second (words_judgement ws) _ (workable-passes ws s.workable) ∙ none 14 0 (sum-passes ws s.sum)
 
 -- an area that passes all but the sum, or not even that
-pub past_words : (ws : List ℕ) → words_judgement ws ≡ Fine → area_judgement ws ≡ refuse_unless (sum_right ws) 14 0
+pub past_words : (ws : List ℕ) → words_judgement ws ≡ Fine → area_judgement ws ≡ refuse_unless (sum_right ws) AreaRule 0
 unfolding area_judgement
 past_words ws e = otherwise-second (words_judgement ws) _ e
 
-pub stopped-words : (ws : List ℕ) (n p : ℕ) → words_judgement ws ≡ Refused n p → area_judgement ws ≡ Refused n p
+pub stopped-words : (ws : List ℕ) (n : Cause) (p : ℕ) → words_judgement ws ≡ refused n p → area_judgement ws ≡ refused n p
 unfolding area_judgement
 stopped-words ws n p e = otherwise-first (words_judgement ws) _ n p e
 

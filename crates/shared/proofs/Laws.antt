@@ -8,7 +8,7 @@ use lib.Dec.{leb}
 use lib.ListN.{length, get_or, set}
 use lib.Pow.{pow_pos}
 use lib.Seq.{get_or-set_same, get_or-set_other}
-use Rattle.refusal.specs.declared.Judgement.TheVariants.{Fine, Refused}
+use Rattle.refusal.specs.Judgement.{Fine, refused}
 use Rattle.refusal.specs.Judgement.{refuse_unless}
 use Rattle.refusal.proofs.Laws.{otherwise-first, otherwise-second}
 use Rattle.rounding.specs.Rounding.{units_in_one, to_units}
@@ -30,6 +30,8 @@ use Rattle.image.proofs.Netlist.{image-net, net-inputs}
 use Rattle.sets.specs.Sets.{most_shared, units_net, shared_units}
 use Rattle.sets.proofs.Units.{units-are, gates_are}
 use Rattle.shared.specs.Shared.{many_shared, shared_image_judgement, image_shared, shared_read}
+use Rattle.refusal.specs.declared.Cause.{Cause}
+use Rattle.refusal.specs.declared.Cause.TheVariants.{ManyShared}
 
 module _ (bs rest : List ℕ) (fine : image_refusal bs ≡ Fine) (q : ℕ) where
   abbrev ws : List ℕ
@@ -73,7 +75,7 @@ module _ (bs rest : List ℕ) (fine : image_refusal bs ≡ Fine) (q : ℕ) where
   judged : many_shared (units_net turned) ≡ shared_image_judgement bs
   unfolding shared_image_judgement
   judged =
-      ap (λ (ss : List ℕ). refuse_unless (leb (length ss) most_shared) 23 0)
+      ap (λ (ss : List ℕ). refuse_unless (leb (length ss) most_shared) ManyShared 0)
       (gates_are turned (image_kinds bs) (image_chances bs) ∙ ap shared_gates net-is)
       ∙ sym (otherwise-second (image_refusal bs) (many_shared (image_net bs)) fine)
 
@@ -81,6 +83,6 @@ module _ (bs rest : List ℕ) (fine : image_refusal bs ≡ Fine) (q : ℕ) where
   answer-is = ap₂ shared_read judged units
 
 -- an image that is refused before
-pub judged-first : (bs : List ℕ) (number place : ℕ) → image_refusal bs ≡ Refused number place → shared_image_judgement bs ≡ Refused number place
+pub judged-first : (bs : List ℕ) (number : Cause) (place : ℕ) → image_refusal bs ≡ refused number place → shared_image_judgement bs ≡ refused number place
 unfolding shared_image_judgement
 judged-first bs number place e = otherwise-first (image_refusal bs) (many_shared (image_net bs)) number place e

@@ -1,7 +1,7 @@
 -- The call of document 02, card 9: of an image under a pattern, whose bits past the inputs do not matter; no area is lent.
 use Rattle.std.specs.Prelude.{ℕ, List, leb, length}
-use Rattle.refusal.specs.declared.Judgement.{Judgement}
-use Rattle.refusal.specs.declared.Judgement.TheVariants.{Fine, Refused}
+use Rattle.refusal.specs.Judgement.{Judgement}
+use Rattle.refusal.specs.Judgement.{Fine, refused}
 use Rattle.refusal.specs.Judgement.{refuse_unless, otherwise}
 use Rattle.rounding.specs.Rounding.{units_in_one}
 use Rattle.chance.specs.Number.{chance_scale}
@@ -12,10 +12,12 @@ use Rattle.image.specs.Refusals.{image_refusal}
 use Rattle.image.specs.Netlist.{image_net}
 use Rattle.shared.specs.declared.SharedRead.{SharedRead}
 use Rattle.shared.specs.declared.SharedRead.TheVariants.{Done as SharedDone, Refused as SharedRefused}
+use Rattle.refusal.specs.declared.Cause.TheVariants.{ManyShared}
+use Rattle.std.specs.Prelude.{Err}
 
 -- 23: more than eight shared live gates
 abbrev pub many_shared : Netlist → Judgement
-many_shared net = refuse_unless (leb (length (shared_gates net)) most_shared) 23 0
+many_shared net = refuse_unless (leb (length (shared_gates net)) most_shared) ManyShared 0
 
 -- an image is judged as before refusal 9, which is not given here; then 23
 unfoldable pub shared_image_judgement : List ℕ → Judgement
@@ -28,4 +30,4 @@ image_shared bs q = shared_reliability units_in_one chance_scale (image_net bs) 
 -- the answer
 abbrev pub shared_read : Judgement → ℕ → SharedRead
 shared_read Fine units = SharedDone units
-shared_read (Refused number place) units = SharedRefused number place
+shared_read (Err why) units = SharedErr why

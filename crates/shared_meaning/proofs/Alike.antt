@@ -9,7 +9,7 @@ use native.Mathlib.Omega.{arith}
 use lib.Dec.{eqb, leb}
 use lib.ListN.{length, replicate}
 use Rattle.lists.specs.Lists.{count, Below}
-use Rattle.refusal.specs.declared.Judgement.TheVariants.{Fine}
+use Rattle.refusal.specs.Judgement.{Fine}
 use Rattle.refusal.specs.Judgement.{refuse_unless}
 use Rattle.refusal.proofs.Laws.{otherwise-second, refused-not-fine}
 use Rattle.rounding.specs.Rounding.{units_in_one}
@@ -41,6 +41,7 @@ use Rattle.shared.specs.Shared.{many_shared, shared_image_judgement, image_share
 use Rattle.shared_meaning.specs.Statements.{nine_at_first, OpensAlike}
 use Rattle.shared_meaning.proofs.Nine.{shared-as-in-nine}
 use Rattle.shared_meaning.proofs.Within.{image-well}
+use Rattle.refusal.specs.declared.Cause.TheVariants.{ManyShared}
 
 -- ---- where 9 does not apply none is shared
 
@@ -94,7 +95,7 @@ opens-alike bs us is q fine ones =
     ∙ ap (λ (p : ℕ). (p / 2 ^ i + count i is) % 2) agree.same_pattern
     ∙ once i (count i is) (q / 2 ^ i) (ones.once i (omega (arith, net-inputs bs))) in (
       otherwise-second (image_refusal bs) (many_shared net) accepted.image
-          ∙ ap (λ (ss : List ℕ). refuse_unless (leb (length ss) most_shared) 23 0) none,
+          ∙ ap (λ (ss : List ℕ). refuse_unless (leb (length ss) most_shared) ManyShared 0) none,
       none-shared units_in_one chance_scale (omega arith) scale-pos net (image-well bs accepted.image) q none
           ∙ sym
           (word

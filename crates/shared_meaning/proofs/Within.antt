@@ -3,7 +3,7 @@ use Prim.Native.Nat.{ℕ}
 use mathlib.Core.List.{List, [], ◌++◌}
 use mathlib.Core.Path.{◌≡◌, subst}
 use native.Mathlib.Omega.{arith}
-use Rattle.refusal.specs.declared.Judgement.TheVariants.{Fine}
+use Rattle.refusal.specs.Judgement.{Fine}
 use Rattle.refusal.proofs.Laws.{otherwise-fine}
 use Rattle.rounding.specs.Rounding.{units_in_one}
 use Rattle.chance.specs.Number.{chance_scale}

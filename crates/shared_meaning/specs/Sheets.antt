@@ -1,7 +1,7 @@
 -- Worked images with shared gates, as a table; `SharedSheets` says that the definitions give it.
 use Rattle.std.specs.Prelude.{ℕ, List, [], ◌∷◌, ◌++◌, map, ◌≡◌, length}
-use Rattle.refusal.specs.declared.Judgement.{Judgement}
-use Rattle.refusal.specs.declared.Judgement.TheVariants.{Fine, Refused}
+use Rattle.refusal.specs.Judgement.{Judgement}
+use Rattle.refusal.specs.Judgement.{Fine, refused}
 use Rattle.rounding.specs.Rounding.{units_in_one}
 use Rattle.chance.specs.Number.{chance_scale}
 use Rattle.netlist.specs.Exact.{sum_over_flips}
@@ -9,6 +9,7 @@ use Rattle.suppose.specs.Suppose.{shared_gates, supposed_figure}
 use Rattle.image.specs.Netlist.{image_net}
 use Rattle.calls.specs.Sheets.{never, half, twentieth, sixteenths, buffer, gate_record, and_gate, two_bytes, trailer, printed_image, gate_twice_image}
 use Rattle.shared.specs.Shared.{shared_image_judgement, image_shared}
+use Rattle.refusal.specs.declared.Cause.TheVariants.{ManyShared}
 
 -- a buffer at 0.5 that two outputs read: one half, where a product over the outputs would say a quarter
 abbrev pub two_outputs_image : List ℕ
@@ -74,4 +75,4 @@ pub record SharedSheets : Type 0 where
   pub units_hold : map (λ (s : Sheet). image_shared s.image s.pattern) sheets ≡ map (λ (s : Sheet). s.units) sheets
   -- the sum before it is cut
   pub above_one : sum_over_flips 2 (supposed_figure units_in_one chance_scale (image_net above_image) 0) ≡ 1_073_741_825
-  pub nine_refused : shared_image_judgement nine_image ≡ Refused 23 0
+  pub nine_refused : shared_image_judgement nine_image ≡ refused ManyShared 0

@@ -1,7 +1,7 @@
 -- What is promised of the shared reliability of an image; proofs/ has a proof of each. bs is the image, q the pattern.
 use Rattle.std.specs.Prelude.{ℕ, ◌-◌, ◌*◌, ◌^◌, List, [], ◌∷◌, ◌≡◌, length}
-use Rattle.refusal.specs.declared.Judgement.{Judgement}
-use Rattle.refusal.specs.declared.Judgement.TheVariants.{Fine, Refused}
+use Rattle.refusal.specs.Judgement.{Judgement}
+use Rattle.refusal.specs.Judgement.{Fine, refused}
 use Rattle.rounding.specs.Rounding.{units_in_one, Near}
 use Rattle.chance.specs.Number.{chance_scale}
 use Rattle.netlist.specs.Netlist.{Netlist}
@@ -17,11 +17,12 @@ use Rattle.calls.specs.Judgements.{open_judgement}
 use Rattle.calls.specs.Calls.{open_words}
 use Rattle.written_opened.specs.Statements.{toggled_all, ListsOnes}
 use Rattle.shared.specs.Shared.{shared_image_judgement, image_shared}
+use Rattle.refusal.specs.declared.Cause.TheVariants.{SharedGate}
 
 -- shared means as in refusal 9: opening is refused with it at the first of the shared gates, and is not where there is none
 abbrev pub nine_at_first : ℕ → List ℕ → Judgement
 nine_at_first n [] = Fine
-nine_at_first n (s ∷ ss) = Refused 9 (s - n)
+nine_at_first n (s ∷ ss) = refused SharedGate (s - n)
 
 abbrev pub SharedAsInNine : Type 0
 SharedAsInNine = (net : Netlist) → shared_judgement net ≡ nine_at_first net.inputs (shared_gates net)

@@ -6,14 +6,15 @@ use mathlib.Core.List.{List, ◌∷◌}
 use native.Mathlib.Numerals.{add-one}
 use native.Mathlib.Omega.{arith}
 use lib.ListN.{get_or}
-use Rattle.refusal.specs.declared.Judgement.{Judgement}
-use Rattle.refusal.specs.declared.Judgement.TheVariants.{Refused}
+use Rattle.refusal.specs.Judgement.{Judgement}
+use Rattle.refusal.specs.Judgement.{refused}
 use Rattle.refusal.specs.Judgement.{refuse_unless}
 use Rattle.texts.specs.Words.{held}
 use Rattle.statements.specs.Lines.{line_of, lines_of, bytes_from, alike}
 use Rattle.statements.specs.Fit.{fit, is_misfit, is_ended, fault}
 use Rattle.statements.specs.declared.Phase.{Phase}
 use Rattle.statements.proofs.Lines.{one_less, lines_split}
+use Rattle.refusal.specs.declared.Cause.TheVariants.{TextLine}
 
 -- what is found from word k on, where a line starts
 abbrev pub fault_from : List ℕ → List ℕ → List ℕ → ℕ → ℕ → Phase → ℕ → Judgement
@@ -30,13 +31,13 @@ module _ (t s l : List ℕ) (n last : ℕ) (p : Phase) (k r : ℕ) (inside : k <
       left : n - (k + 1) - r ≡ n - (k + suc r)
       left = omega arith
 
-  pub fault-here : (q : Phase) → q ≡ fit p (bytes_from t s k (r + 1)) → is_misfit q ≡ true → fault_from t s l n last p k ≡ Refused 18 (get_or l k 0)
+  pub fault-here : (q : Phase) → q ≡ fit p (bytes_from t s k (r + 1)) → is_misfit q ≡ true → fault_from t s l n last p k ≡ refused TextLine (get_or l k 0)
   fault-here q e h = rw (split, ← e, h)
 
   pub fault-later : (q : Phase) → q ≡ fit p (bytes_from t s k (r + 1)) → is_misfit q ≡ false → fault_from t s l n last p k ≡ fault_from t s l n last q (k + (r + 1))
   fault-later q e h = rw (split, ← e, h)
 
-pub fault-end : (t s l : List ℕ) (n last : ℕ) (p : Phase) (k : ℕ) → n ≤ k → fault_from t s l n last p k ≡ refuse_unless (is_ended p) 18 last
+pub fault-end : (t s l : List ℕ) (n last : ℕ) (p : Phase) (k : ℕ) → n ≤ k → fault_from t s l n last p k ≡ refuse_unless (is_ended p) TextLine last
 fault-end t s l n last p k past = rw none
   where
     none : n - k ≡ 0

@@ -1,7 +1,7 @@
 -- The statements of the subset and their order, document 01's section on the text of card 4: refusal 18.
 use Rattle.std.specs.Prelude.{ℕ, ◌+◌, ◌-◌, Bool, true, false, cond, List, [], ◌∷◌, length, get_or, eqb, leb}
-use Rattle.refusal.specs.declared.Judgement.{Judgement}
-use Rattle.refusal.specs.declared.Judgement.TheVariants.{Refused}
+use Rattle.refusal.specs.Judgement.{Judgement}
+use Rattle.refusal.specs.Judgement.{refused}
 use Rattle.refusal.specs.Judgement.{refuse_unless}
 use Rattle.names.specs.Names.{same, is_name}
 use Rattle.area.specs.Layout.{most_pins}
@@ -10,6 +10,7 @@ use Rattle.statements.specs.declared.Keyword.{Keyword}
 use Rattle.statements.specs.declared.Keyword.TheVariants.{Model, Inputs, Outputs, Names, End, Other}
 use Rattle.statements.specs.declared.Phase.{Phase}
 use Rattle.statements.specs.declared.Phase.TheVariants.{Before, Heading, Cover, Ended, Misfit}
+use Rattle.refusal.specs.declared.Cause.TheVariants.{TextLine}
 
 -- .model .inputs .outputs .names .end
 unfoldable pub key_model : List ℕ
@@ -131,5 +132,5 @@ is_ended Misfit = false
 
 -- refusal 18 of lines: the first that does not fit; the text's last where only `.end` is missing
 abbrev pub fault : Phase → List Line → ℕ → Judgement
-fault p [] last = refuse_unless (is_ended p) 18 last
-fault p (l ∷ ls) last = cond (is_misfit (fit p l.words)) (Refused 18 l.number) (fault (fit p l.words) ls last)
+fault p [] last = refuse_unless (is_ended p) TextLine last
+fault p (l ∷ ls) last = cond (is_misfit (fit p l.words)) (refused TextLine l.number) (fault (fit p l.words) ls last)

@@ -1,6 +1,6 @@
 -- What is promised of lines in which refusal 18 finds nothing.
 use Rattle.std.specs.Prelude.{ℕ, ◌≡◌, List, [], ◌∷◌}
-use Rattle.refusal.specs.declared.Judgement.TheVariants.{Fine}
+use Rattle.refusal.specs.Judgement.{Fine}
 use Rattle.statements.specs.declared.Phase.TheVariants.{Before}
 use Rattle.statements.specs.Lines.{Line, last_line}
 use Rattle.statements.specs.Fit.{key_end, fault}

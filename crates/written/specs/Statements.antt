@@ -1,6 +1,6 @@
 -- What is promised of the image that is written from an area without a refusal: change request 7.
 use Rattle.std.specs.Prelude.{ℕ, ◌<◌, List, ◌≡◌}
-use Rattle.refusal.specs.declared.Judgement.TheVariants.{Fine}
+use Rattle.refusal.specs.Judgement.{Fine}
 use Rattle.area.specs.Layout.{inputs, gates, outputs, pin_count, table, pins, flip, output}
 use Rattle.area.specs.Rules.{area_judgement}
 use Rattle.image.specs.Image.{middle}

@@ -10,8 +10,8 @@ use lib.Pow.{pow_pos}
 use borrow.Author.Tests.{eqb-true, eqb-false}
 use Rattle.lists.specs.Lists.{count, Below}
 use Rattle.lists.proofs.Every.{below-tail}
-use Rattle.refusal.specs.declared.Judgement.{Judgement}
-use Rattle.refusal.specs.declared.Judgement.TheVariants.{Fine}
+use Rattle.refusal.specs.Judgement.{Judgement}
+use Rattle.refusal.specs.Judgement.{Fine}
 use Rattle.refusal.specs.Judgement.{unless_refused}
 use Rattle.rules.proofs.Sound.{sound}
 use Rattle.area.specs.Layout.{inputs, pattern, flip}

@@ -2,7 +2,7 @@
 -- of the area's words, us that of the area which the image is opened in.
 use Rattle.std.specs.Prelude.{ℕ, ◌/◌, ◌%◌, ◌^◌, ◌≤◌, ◌<◌, List, [], ◌∷◌, ◌++◌, map, ◌≡◌, length, take, drop, set}
 use Rattle.lists.specs.Lists.{count, Below}
-use Rattle.refusal.specs.declared.Judgement.TheVariants.{Fine}
+use Rattle.refusal.specs.Judgement.{Fine}
 use Rattle.refusal.specs.Judgement.{otherwise}
 use Rattle.rounding.specs.Rounding.{units_in_one, to_units}
 use Rattle.chance.specs.Number.{chance_scale, whole_chance}

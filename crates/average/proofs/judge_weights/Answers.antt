@@ -8,8 +8,8 @@ use borrow.Author.Tests.{eq-eqb, ne_eqb}
 use lib.ListN.{length}
 use lib.Pow.{pow_mono}
 use Rattle.lists.specs.Lists.{all_zero}
-use Rattle.refusal.specs.declared.Judgement.{Judgement}
-use Rattle.refusal.specs.declared.Judgement.TheVariants.{Fine, Refused}
+use Rattle.refusal.specs.Judgement.{Judgement}
+use Rattle.refusal.specs.Judgement.{Fine, refused}
 use Rattle.refusal.specs.Judgement.{refuse_unless, otherwise, lowest}
 use Rattle.refusal.proofs.Laws.{otherwise-first}
 use Rattle.area.specs.Layout.{most_inputs}
@@ -17,20 +17,21 @@ use Rattle.calls.specs.Judgements.{weight_judgement, weights_judgement}
 use Rattle.average.proofs.Patterns.{shifted}
 use Rattle.average.proofs.judge_weights.Goals.{Else-weights-inputs}
 use Rattle.average.proofs.judge_weights.Goals as goal
+use Rattle.refusal.specs.declared.Cause.TheVariants.{WrongWeights}
 
 module _ (n : ℕ) (weights : List ℕ) where
-  wrong-length : (length weights ≡ 2 ^ n → ⊥) → weights_judgement n weights ≡ Refused 12 0
+  wrong-length : (length weights ≡ 2 ^ n → ⊥) → weights_judgement n weights ≡ refused WrongWeights 0
   unfolding weights_judgement
   wrong-length other = rw (ne_eqb (length weights) (2 ^ n) other)
 
   -- of as many weights as patterns the lowest that is too large decides, then whether one counts
   right-length : (v : Judgement) → length weights ≡ 2 ^ n → v ≡ lowest (weight_judgement weights) (length weights)
-      → weights_judgement n weights ≡ otherwise v (refuse_unless (not (all_zero weights)) 12 0)
+      → weights_judgement n weights ≡ otherwise v (refuse_unless (not (all_zero weights)) WrongWeights 0)
   unfolding weights_judgement
   right-length v e each = rw (eq-eqb (length weights) (2 ^ n) e, each)
 
   none-heavy : (v : Judgement) (none : Bool) → length weights ≡ 2 ^ n → v ≡ lowest (weight_judgement weights) (length weights) → v ≡ Fine
-      → all_zero weights ≡ none → refuse_unless (not none) 12 0 ≡ weights_judgement n weights
+      → all_zero weights ≡ none → refuse_unless (not none) WrongWeights 0 ≡ weights_judgement n weights
   none-heavy v none e each fine zero = sym (right-length v e each ∙ rw (fine, zero))
 
 pub returns-then-weights-inputs : goal.returns-then-weights-inputs

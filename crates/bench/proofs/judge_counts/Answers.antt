@@ -2,7 +2,7 @@
 use Prim.Native.Nat.{ℕ}
 use mathlib.Core.Path.{◌≡◌, sym, ap₂, ◌∙◌}
 use native.Mathlib.Omega.{arith}
-use Rattle.refusal.specs.declared.Judgement.TheVariants.{Fine}
+use Rattle.refusal.specs.Judgement.{Fine}
 use Rattle.refusal.proofs.Laws.{otherwise-first, otherwise-second}
 use Rattle.area.specs.Rules.{NetSound, area_judgement}
 use Rattle.rules.proofs.Sound.{sound}

@@ -4,7 +4,7 @@ use mathlib.Core.List.{List, []}
 use mathlib.Core.Path.{◌≡◌, refl, sym, ap, ap₂, ◌∙◌}
 use native.Mathlib.Omega.{arith}
 use lib.ListN.{length, get_or}
-use Rattle.refusal.specs.declared.Judgement.{Judgement}
+use Rattle.refusal.specs.Judgement.{Judgement}
 use Rattle.refusal.proofs.Laws.{otherwise-first, otherwise-second}
 use Rattle.netlist.specs.Live.{readers, live_gates}
 use Rattle.area.specs.Net.{net_of}

@@ -2,7 +2,7 @@
 use Prim.Native.Nat.{◌+◌, ◌<◌}
 use mathlib.Core.Path.{◌≡◌, refl, sym, ap, ◌∙◌}
 use native.Mathlib.Omega.{arith}
-use Rattle.refusal.specs.declared.Judgement.TheVariants.{Fine}
+use Rattle.refusal.specs.Judgement.{Fine}
 use Rattle.refusal.proofs.Laws.{otherwise-first, otherwise-second}
 use Rattle.area.specs.Layout.{most_sources, inputs, gates, outputs}
 use Rattle.area.specs.Rules.{Sound}

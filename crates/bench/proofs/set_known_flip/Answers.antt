@@ -4,7 +4,7 @@ use mathlib.Core.List.{List, []}
 use mathlib.Core.Path.{◌≡◌, refl, sym, ap, ap₂, subst, ◌∙◌}
 use native.Mathlib.Nat.{mul-le-mul_right}
 use native.Mathlib.Omega.{arith}
-use Rattle.refusal.specs.declared.Judgement.TheVariants.{Fine, Refused}
+use Rattle.refusal.specs.Judgement.{Fine, refused}
 use Rattle.refusal.proofs.Laws.{otherwise-second}
 use Rattle.chance.specs.Flip.{flip_units}
 use Rattle.netlist.specs.Live.{if_live, readers}
@@ -124,7 +124,7 @@ returns-in-Units c =
 -- a flip that is refused leaves every word
 left_alone : (s : Start) (number : ℕ) →
     let a = s.args in
-    flip_refusal 11 a.gate a.kind a.field ≡ Refused number a.gate
+    flip_refusal 11 a.gate a.kind a.field ≡ refused number a.gate
     → (SetRefused number a.gate ≡ flip_set (flip_judgement a.gate a.kind a.field))
     × (a.area.now ≡ left a.area.now (set_flip a.gate a.kind a.field))
 left_alone s number u =

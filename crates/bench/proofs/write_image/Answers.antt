@@ -2,7 +2,7 @@
 use Prim.Native.Nat.{◌≤◌}
 use mathlib.Core.Path.{◌≡◌, refl, sym, ◌∙◌}
 use lib.ListN.{length}
-use Rattle.refusal.specs.declared.Judgement.TheVariants.{Fine}
+use Rattle.refusal.specs.Judgement.{Fine}
 use Rattle.area.specs.Layout.{inputs, gates, outputs}
 use Rattle.area.specs.Rules.{Sound}
 use Rattle.calls.specs.Judgements.{Call, write_image, judgement}

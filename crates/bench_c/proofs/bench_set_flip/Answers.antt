@@ -2,7 +2,7 @@
 use Prim.Native.Nat.{ℕ}
 use mathlib.Core.List.{List}
 use mathlib.Core.Path.{◌≡◌, refl, sym, ap, ◌∙◌}
-use Rattle.refusal.specs.declared.Judgement.{Judgement}
+use Rattle.refusal.specs.Judgement.{Judgement}
 use Rattle.calls.specs.Judgements.{Call, set_flip, judgement}
 use Rattle.calls.specs.Calls.{left}
 use Rattle.bench.specs.Answers.{flip_set}

@@ -1,10 +1,11 @@
 -- `blif::judge_some` meets its contract. Assumes nothing.
 use mathlib.Core.Path.{ap, sym, ◌∙◌}
 use native.Mathlib.Omega.{arith}
-use Rattle.refusal.specs.declared.Judgement.TheVariants.{Refused}
+use Rattle.refusal.specs.Judgement.{refused}
 use Rattle.model.specs.Tables.{lines_from}
 use Rattle.blif.proofs.Counting.{last_line-number, no_output, some_output}
 use Rattle.blif.proofs.judge_some.Goals as goal
+use Rattle.refusal.specs.declared.Cause.TheVariants.{TextModel}
 
 pub judge_count-requires : goal.judge_count-requires
 judge_count-requires c =
@@ -17,7 +18,7 @@ line-requires c =
 pub returns-in-Fine : goal.returns-in-Fine
 returns-in-Fine c =
     let a = c.args in
-    ap (Refused 19) (c.line.ensures ∙ sym (last_line-number a.text.now a.starts.now a.lines.now a.n c.requires.1))
+    ap (refused TextModel) (c.line.ensures ∙ sym (last_line-number a.text.now a.starts.now a.lines.now a.n c.requires.1))
     ∙ sym (no_output (lines_from a.text.now a.starts.now a.lines.now a.n 0) (sym c.judge_count.ensures ∙ c.in-Fine.is))
 
 pub returns-in-Refused : goal.returns-in-Refused

@@ -7,6 +7,7 @@ use Rattle.image.specs.Image.{known_format, image_inputs, image_gates, image_out
 use Rattle.image.specs.Refusals.{length_right, back_right, trailer_refusal}
 use Rattle.image.proofs.judge_trailer.Goals.{After-counts_in_range}
 use Rattle.image.proofs.judge_trailer.Goals as goal
+use Rattle.refusal.specs.declared.Cause.TheVariants.{WrongCounts, WrongBack}
 
 pub returns-then-image-lt-TRAILER_BYTES : goal.returns-then-image-lt-TRAILER_BYTES
 unfolding trailer_refusal length_right
@@ -27,7 +28,7 @@ returns-then-two_bytes-ne-KNOWN_FORMAT c =
 -- what is left once 1 and 2 are passed
 left_over : (c : After-counts_in_range) →
     let bs = c.args.image.now in
-    trailer_refusal bs ≡ otherwise (refuse_unless c.counts_in_range.result 3 0) (refuse_unless (back_right bs) 4 0)
+    trailer_refusal bs ≡ otherwise (refuse_unless c.counts_in_range.result WrongCounts 0) (refuse_unless (back_right bs) WrongBack 0)
 unfolding trailer_refusal
 left_over c =
     let bs = c.args.image.now in

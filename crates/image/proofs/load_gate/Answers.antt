@@ -14,6 +14,7 @@ use Rattle.image.proofs.Flips.{flip-read, flip-above, flip-bad}
 use Rattle.image.proofs.Middle.{record-stored}
 use Rattle.image.proofs.load_gate.Goals.{After-gate_shape, After-used_below}
 use Rattle.image.proofs.load_gate.Goals as goal
+use Rattle.refusal.specs.declared.Cause.TheVariants.{GatePin}
 
 -- the first test as the code asked it
 shape : (c : After-gate_shape) →
@@ -36,7 +37,7 @@ left_over : (c : After-used_below) →
     let a = c.args in
     let m = a.middle.now in
     gate_refusal m a.inputs a.j
-    ≡ otherwise (refuse_unless c.used_below.result 6 a.j) (flip_refusal 7 a.j (record_kind m a.j) (record_field m a.j))
+    ≡ otherwise (refuse_unless c.used_below.result GatePin a.j) (flip_refusal 7 a.j (record_kind m a.j) (record_field m a.j))
 unfolding gate_refusal
 left_over c =
     let a = c.args in

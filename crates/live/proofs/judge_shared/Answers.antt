@@ -10,6 +10,7 @@ use Rattle.refusal.specs.Judgement.{refuse_unless, lowest, word_judgement}
 use Rattle.refusal.proofs.Laws.{lowest-same}
 use Rattle.live.specs.Shared.{gate_shared}
 use Rattle.live.proofs.judge_shared.Goals as goal
+use Rattle.refusal.specs.declared.Cause.TheVariants.{SharedGate}
 
 pub returns : goal.returns
 returns c =
@@ -19,6 +20,6 @@ returns c =
     let part : List ℕ = take count (drop a.inputs xs) in
     let size : length part ≡ a.gates = omega (arith, length-take count (drop a.inputs xs), length-drop a.inputs xs, c.requires.0) in
     c.judge_each.ensures
-    ∙ ap (lowest (word_judgement part 1 9)) size
-    ∙ lowest-same (word_judgement part 1 9) (gate_shared (λ t. get_or xs t 0) a.inputs) a.gates (λ j l.
-    ap (λ (x : ℕ). refuse_unless (leb x 1) 9 j) (part_at xs a.inputs count j (omega arith)))
+    ∙ ap (lowest (word_judgement part 1 SharedGate)) size
+    ∙ lowest-same (word_judgement part 1 SharedGate) (gate_shared (λ t. get_or xs t 0) a.inputs) a.gates (λ j l.
+    ap (λ (x : ℕ). refuse_unless (leb x 1) SharedGate j) (part_at xs a.inputs count j (omega arith)))

@@ -2,7 +2,7 @@
 use Prim.Native.Nat.{ℕ}
 use mathlib.Core.Path.{refl, ap, sym, ◌∙◌}
 use native.Mathlib.Omega.{arith}
-use Rattle.refusal.specs.declared.Judgement.TheVariants.{Refused}
+use Rattle.refusal.specs.Judgement.{refused}
 use Rattle.model.specs.Model.{listed}
 use Rattle.model.specs.Counts.{over_fault}
 use Rattle.model.specs.Tables.{run_many}
@@ -11,6 +11,7 @@ use mathlib.Core.List.{List}
 use Rattle.statements.specs.Lines.{Line}
 use borrow.Author.Rules.{rules}
 use Rattle.model.proofs.judge_count.Goals as goal
+use Rattle.refusal.specs.declared.Cause.TheVariants.{TextModel}
 
 pub loop-k-init : goal.loop-k-init
 loop-k-init c = (omega arith, omega arith, refl)
@@ -33,7 +34,7 @@ returns-then-many-left c =
     let l = c.loop-k in
     let a = c.args in
     let short = shorter a.text.now a.starts.now a.lines.now a.n l.k at-line-rest.result at-loop-test.true at-line-rest.ensures in
-    ap (Refused 19) c.line.ensures
+    ap (refused TextModel) c.line.ensures
     ∙ sym (refuse-here a.text.now a.starts.now a.lines.now a.n l.k at-line-rest.result at-loop-test.true at-line-rest.ensures a.wanted at-run-many.result (at-run-many.ensures ∙ ap (λ (x : ℕ). run_many x a.wanted at-line-rest.result) c.key_at.ensures) l.left c.if-many-left.true)
     ∙ l.invariant.2
 

@@ -1,12 +1,13 @@
 -- `resolve::judge_again` meets its contract. Assumes nothing.
 use mathlib.Core.Path.{refl, ap, sym, ◌∙◌}
 use native.Mathlib.Omega.{arith}
-use Rattle.refusal.specs.declared.Judgement.TheVariants.{Refused}
+use Rattle.refusal.specs.Judgement.{refused}
 use Rattle.refusal.proofs.Laws.{lowest-more}
 use Rattle.texts.specs.Words.{held}
 use Rattle.resolve.specs.Names.{again_at}
 use Rattle.resolve.proofs.Lookup.{again-first, again-stops, again-ends}
 use Rattle.resolve.proofs.judge_again.Goals as goal
+use Rattle.refusal.specs.declared.Cause.TheVariants.{TextModel}
 
 pub loop-i-init : goal.loop-i-init
 loop-i-init c = (omega arith, refl)
@@ -21,7 +22,7 @@ pub returns-then-find_word-i : goal.returns-then-find_word-i
 returns-then-find_word-i c =
     let l = c.loop-i in
     let a = c.args in
-    ap (Refused 19) c.line.ensures
+    ap (refused TextModel) c.line.ensures
     ∙ again-stops a.text.now a.names.now a.numbers.now a.many l.i c.loop-i-test.true l.invariant.1 (λ e. c.if-find_word-i.true (c.find_word.ensures.0 ∙ e))
 
 pub loop-i-preserved : goal.loop-i-preserved

@@ -2,12 +2,13 @@
 use Prim.Native.Nat.{ℕ, ◌≤◌, ◌<◌}
 use mathlib.Core.Path.{◌≡◌, ap, ◌∙◌}
 use native.Mathlib.Omega.{arith}
-use Rattle.refusal.specs.declared.Judgement.TheVariants.{Refused}
+use Rattle.refusal.specs.Judgement.{refused}
 use Rattle.refusal.proofs.Laws.{refused-not-fine}
 use Rattle.resolve.proofs.Lookup.{begin, turn, stops, finish}
 use mathlib.Core.Logic.{⊎_elim}
 use native.Mathlib.Nat.{eq-or-lt_of_le}
 use Rattle.resolve.proofs.resolve.Goals as goal
+use Rattle.refusal.specs.declared.Cause.TheVariants.{TextModel}
 
 below : (x m : ℕ) → x ≤ m → (x ≡ m → ⊥) → x < m
 below x m l e = ⊎_elim (λ (q : x ≡ m). absurd (e q)) (λ (q : x < m). q) (eq-or-lt_of_le {n = x} {m = m} l)
@@ -26,7 +27,7 @@ returns-then-number-many c =
     let at-find-word = c.find_word-number in
     let l = c.loop-i in
     let a = c.args in record {
-      by_index = λ ls. ap (Refused 19) c.line.ensures ∙ stops a.text.now a.names.now a.many a.starts.now a.lines.now a.start a.count _ a.base l.table l.i
+      by_index = λ ls. ap (refused TextModel) c.line.ensures ∙ stops a.text.now a.names.now a.many a.starts.now a.lines.now a.start a.count _ a.base l.table l.i
           l.invariant.1 c.loop-i-test.true c.requires.count_in_bounds at-find-word.result at-find-word.ensures.0 c.if-number-many.true ls;
       found = refused-not-fine _ _;
     }

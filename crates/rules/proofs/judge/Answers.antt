@@ -1,7 +1,7 @@
 -- `rules::judge` meets its contract: an area that passes all but the sum can have its live readers counted. Assumes nothing.
 use mathlib.Core.Path.{◌≡◌, sym, ◌∙◌}
 use native.Mathlib.Omega.{arith}
-use Rattle.refusal.specs.declared.Judgement.TheVariants.{Fine}
+use Rattle.refusal.specs.Judgement.{Fine}
 use Rattle.area.specs.Rules.{NetSound, words_judgement}
 use Rattle.rules.proofs.Sound.{workable, past_words, stopped-words}
 use Rattle.rules.proofs.judge.Goals.{In-Fine}

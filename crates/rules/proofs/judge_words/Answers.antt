@@ -12,6 +12,7 @@ use Rattle.rules.proofs.Facts.{counts_hold}
 use Rattle.rules.proofs.Parts.{yes, no, none, last-refused, next, refused}
 use Rattle.rules.proofs.judge_words.Goals.{After-counts_in_range, After-needed, Else-area-needed, Else-not-counts_in_range}
 use Rattle.rules.proofs.judge_words.Goals as goal
+use Rattle.refusal.specs.declared.Cause.TheVariants.{AreaTooShort, AreaRule}
 
 -- the test of the counts that words hold
 abbrev Counts : List ℕ → Bool
@@ -33,7 +34,7 @@ room-is c =
 
 -- past the first three refusals
 abbrev Past : List ℕ → Type 0
-Past ws = words_judgement ws ≡ refuse_unless (rest_sound ws) 14 0
+Past ws = words_judgement ws ≡ refuse_unless (rest_sound ws) AreaRule 0
 
 past_room : (c : Else-area-needed) → Past c.args.area.now
 unfolding words_judgement
@@ -43,11 +44,11 @@ past_room c =
 
 pub returns-then-area-lt-HEAD_WORDS : goal.returns-then-area-lt-HEAD_WORDS
 unfolding words_judgement
-returns-then-area-lt-HEAD_WORDS c = sym (refused 13 0 _ (lt-leb _ _ c.if-area-lt-HEAD_WORDS.true))
+returns-then-area-lt-HEAD_WORDS c = sym (refused AreaTooShort 0 _ (lt-leb _ _ c.if-area-lt-HEAD_WORDS.true))
 
 pub returns-then-not-counts_in_range : goal.returns-then-not-counts_in_range
 unfolding words_judgement
-returns-then-not-counts_in_range c = sym (next 13 0 _ (le-leb _ _ c.if-area-lt-HEAD_WORDS.false) ∙ refused 14 0 _ (no (counted (goal.at.returns-then-not-counts_in_range c).After-counts_in_range) c.if-not-counts_in_range.true))
+returns-then-not-counts_in_range c = sym (next 13 0 _ (le-leb _ _ c.if-area-lt-HEAD_WORDS.false) ∙ refused AreaRule 0 _ (no (counted (goal.at.returns-then-not-counts_in_range c).After-counts_in_range) c.if-not-counts_in_range.true))
 
 pub needed-requires : goal.needed-requires
 needed-requires c =
@@ -58,7 +59,7 @@ pub returns-then-area-needed : goal.returns-then-area-needed
 unfolding words_judgement
 returns-then-area-needed c =
     let head = next 13 0 _ (le-leb _ _ c.if-area-lt-HEAD_WORDS.false) in
-    sym (head ∙ next 14 0 _ (in-range (goal.at.returns-then-area-needed c).Else-not-counts_in_range) ∙ refused 13 0 _ (lt-leb _ _ (rw (room-is (goal.at.returns-then-area-needed c).After-needed) at c.if-area-needed.true)))
+    sym (head ∙ next 14 0 _ (in-range (goal.at.returns-then-area-needed c).Else-not-counts_in_range) ∙ refused AreaTooShort 0 _ (lt-leb _ _ (rw (room-is (goal.at.returns-then-area-needed c).After-needed) at c.if-area-needed.true)))
 
 pub rest_sound-requires : goal.rest_sound-requires
 rest_sound-requires c =

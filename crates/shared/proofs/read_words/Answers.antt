@@ -6,7 +6,7 @@ use native.Mathlib.Omega.{arith}
 use borrow.Author.Rules.{rules}
 use borrow.Author.Tests.{le-leb, lt-leb}
 use lib.ListN.{length, get_or}
-use Rattle.refusal.specs.declared.Judgement.TheVariants.{Fine, Refused}
+use Rattle.refusal.specs.Judgement.{Fine, refused}
 use Rattle.refusal.specs.Judgement.{refuse_unless}
 use Rattle.suppose.specs.Suppose.{shared_from}
 use Rattle.sets.specs.Sets.{most_shared, units_net, shared_of}
@@ -14,6 +14,7 @@ use Rattle.sets.proofs.Laws.{shared-counted}
 use Rattle.shared.specs.Shared.{many_shared}
 use Rattle.shared.proofs.read_words.Goals.{After-shared_gates-shared}
 use Rattle.shared.proofs.read_words.Goals as goal
+use Rattle.refusal.specs.declared.Cause.TheVariants.{ManyShared}
 
 -- how many are shared
 module _ (c : After-shared_gates-shared) where
@@ -31,8 +32,8 @@ module _ (c : After-shared_gates-shared) where
 pub returns-then-shared-gt-MOST_SHARED : goal.returns-then-shared-gt-MOST_SHARED
 returns-then-shared-gt-MOST_SHARED c =
     let there = (goal.at.returns-then-shared-gt-MOST_SHARED c).After-shared_gates-shared in
-    let many : many_shared (units_net (ws there)) ≡ Refused 23 0
-    = ap (λ b. refuse_unless b 23 0) (lt-leb (length (shared_of (ws there))) most_shared (omega (arith, counted there, c.if-shared-gt-MOST_SHARED.true))) in
+    let many : many_shared (units_net (ws there)) ≡ refused ManyShared 0
+    = ap (λ b. refuse_unless b ManyShared 0) (lt-leb (length (shared_of (ws there))) most_shared (omega (arith, counted there, c.if-shared-gt-MOST_SHARED.true))) in
     rw many refl
 
 pub shared_reliability-requires : goal.shared_reliability-requires
@@ -42,6 +43,6 @@ pub returns : goal.returns
 returns c =
     let there = (goal.at.returns c).After-shared_gates-shared in
     let few : many_shared (units_net (ws there)) ≡ Fine
-    = ap (λ b. refuse_unless b 23 0)
+    = ap (λ b. refuse_unless b ManyShared 0)
     (le-leb (length (shared_of (ws there))) most_shared (omega (arith, counted there, c.if-shared-gt-MOST_SHARED.false))) in
     rw few (rw c.shared_reliability.ensures refl)

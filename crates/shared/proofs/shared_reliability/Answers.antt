@@ -6,7 +6,7 @@ use native.Mathlib.Omega.{arith}
 use lib.ListN.{drop, replicate, set}
 use Rattle.area.specs.Layout.{most_words, inputs, pattern_index, needed}
 use Rattle.area.specs.Rules.{Workable}
-use Rattle.refusal.specs.declared.Judgement.TheVariants.{Fine}
+use Rattle.refusal.specs.Judgement.{Fine}
 use Rattle.image.specs.Image.{image_gates, image_outputs}
 use Rattle.image.specs.Refusals.{image_refusal}
 use Rattle.image.specs.Loading.{image_words}

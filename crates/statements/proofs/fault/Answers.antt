@@ -4,11 +4,12 @@ use mathlib.Core.Path.{refl, ap, sym, ◌∙◌}
 use native.Mathlib.Omega.{arith}
 use native.Mathlib.Nat.{sub-zero}
 use lib.ListN.{get_or}
-use Rattle.refusal.specs.declared.Judgement.TheVariants.{Refused}
+use Rattle.refusal.specs.Judgement.{refused}
 use Rattle.statements.proofs.Lines.{places-less, alike-short}
 use Rattle.statements.proofs.Faults.{fault-here, fault-later, fault-end}
 use borrow.Author.Rules.{rules}
 use Rattle.statements.proofs.fault.Goals as goal
+use Rattle.refusal.specs.declared.Cause.TheVariants.{TextLine}
 
 pub loop-k-init : goal.loop-k-init
 loop-k-init c = (omega arith, rw sub-zero refl)
@@ -33,7 +34,7 @@ returns-then-is_misfit c =
     let l = c.loop-k in
     let a = c.args in
     let short : at-line-rest.result ≤ a.n - (l.k + 1) = rw at-line-rest.ensures (alike-short a.lines.now (get_or a.lines.now l.k 0) (l.k + 1) (a.n - (l.k + 1))) in
-    ap (Refused 18) c.line.ensures ∙ sym (fault-here a.text.now a.starts.now a.lines.now a.n a.last l.phase l.k at-line-rest.result (search rules) at-line-rest.ensures at-fit.result at-fit.ensures (sym c.is_misfit.ensures ∙ c.if-is_misfit.true)) ∙ l.invariant.1
+    ap (refused TextLine) c.line.ensures ∙ sym (fault-here a.text.now a.starts.now a.lines.now a.n a.last l.phase l.k at-line-rest.result (search rules) at-line-rest.ensures at-fit.result at-fit.ensures (sym c.is_misfit.ensures ∙ c.if-is_misfit.true)) ∙ l.invariant.1
 
 pub overflow_add-k : goal.overflow_add-k
 overflow_add-k c =
