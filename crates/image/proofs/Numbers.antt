@@ -12,6 +12,7 @@ use Rattle.image.specs.Image.{record_count, record_kind, record_table, record_pi
 use Rattle.image.specs.Refusals.{length_right, back_right, trailer_refusal, gate_refusal, output_refusal, middle_refusal, image_refusal}
 use Rattle.image.proofs.Flips.{only-flip}
 use Rattle.refusal.specs.declared.Cause.{Cause}
+use Rattle.refusal.specs.declared.Cause.TheVariants.{GateFlip}
 
 -- a condition that gives one of these numbers
 given : (c : Bool) (a : Cause) (p : ℕ) → NotRule a → Only NotRule (refuse_unless c a p)
@@ -22,7 +23,7 @@ unfolding gate_refusal
 only-gate m n j =
     only-otherwise NotRule _ _ (given (gate_shape (record_count m j) (record_table m j) (record_pins m j)) 5 j (omega arith, omega arith))
     (only-otherwise NotRule _ _ (given (used_below (n + j) (record_count m j) (record_pins m j)) 6 j (omega arith, omega arith))
-    (only-flip 7 j (record_kind m j) (record_field m j) (omega arith, omega arith)))
+    (only-flip GateFlip j (record_kind m j) (record_field m j) (omega arith, omega arith)))
 
 only-output : (m : List ℕ) (n g k : ℕ) → Only NotRule (output_refusal m n g k)
 unfolding output_refusal
