@@ -108,8 +108,14 @@ pub fn units_of_flip(
     match chance::read_units(kind, field) {
         Ok(units) => Ok(units),
         Err(fault) => match fault {
-            FlipFault::Unreadable => Err(Refusal { cause: unreadable, place }),
-            FlipFault::AboveHalf => Err(Refusal { cause: Cause::ChanceAboveHalf, place }),
+            FlipFault::Unreadable => Err(Refusal {
+                cause: unreadable,
+                place,
+            }),
+            FlipFault::AboveHalf => Err(Refusal {
+                cause: Cause::ChanceAboveHalf,
+                place,
+            }),
         },
     }
 }
@@ -128,10 +134,16 @@ fn load_gate(middle: &[u8], inputs: usize, j: usize, words: &mut [u32]) -> Resul
     let table = two_bytes(middle, at + TABLE);
     let pins = four_numbers(middle, at + PINS);
     if !rules::gate_shape(used, table, pins) {
-        return Err(Refusal { cause: Cause::GateShape, place: j as u32 });
+        return Err(Refusal {
+            cause: Cause::GateShape,
+            place: j as u32,
+        });
     }
     if !rules::used_below(inputs + j, used, pins) {
-        return Err(Refusal { cause: Cause::GatePin, place: j as u32 });
+        return Err(Refusal {
+            cause: Cause::GatePin,
+            place: j as u32,
+        });
     }
     let field = eight_bytes(middle, at + FIELD);
     let units = units_of_flip(middle[at + KIND], field, Cause::GateFlip, j as u32)?;
@@ -155,7 +167,13 @@ fn load_gates(middle: &[u8], inputs: usize, gates: usize, words: &mut [u32]) -> 
 }
 
 // Output k: refusal 8, else its word.
-fn load_output(middle: &[u8], inputs: usize, gates: usize, k: usize, words: &mut [u32]) -> Result<(), Refusal>
+fn load_output(
+    middle: &[u8],
+    inputs: usize,
+    gates: usize,
+    k: usize,
+    words: &mut [u32],
+) -> Result<(), Refusal>
     requires output_bytes_in_bounds { middle_bytes gates k + output_bytes ≤ length middle.now }
     requires k_in_bounds { outputs_index gates + k < length words.old }
     requires inputs_le_most_inputs { (inputs ≤ most_inputs) × (gates ≤ most_gates) × (k < most_outputs) }
@@ -164,7 +182,10 @@ fn load_output(middle: &[u8], inputs: usize, gates: usize, k: usize, words: &mut
 {
     let source = two_bytes(middle, RECORD_BYTES * gates + OUTPUT_BYTES * k);
     if area::index(source) >= inputs + gates {
-        return Err(Refusal { cause: Cause::OutputSource, place: k as u32 });
+        return Err(Refusal {
+            cause: Cause::OutputSource,
+            place: k as u32,
+        });
     }
     words[area::outputs_index(gates) + k] = source;
     Ok(())
@@ -242,22 +263,37 @@ fn judge_trailer(image: &[u8]) -> Result<(), Refusal>
     ensures { result ≡ trailer_refusal image.now }
 {
     if image.len() < TRAILER_BYTES {
-        return Err(Refusal { cause: Cause::WrongLength, place: 0 });
+        return Err(Refusal {
+            cause: Cause::WrongLength,
+            place: 0,
+        });
     }
     if !length_right(image) {
-        return Err(Refusal { cause: Cause::WrongLength, place: 0 });
+        return Err(Refusal {
+            cause: Cause::WrongLength,
+            place: 0,
+        });
     }
     let at = image.len() - TRAILER_BYTES;
     if two_bytes(image, at + FORMAT) != KNOWN_FORMAT {
-        return Err(Refusal { cause: Cause::WrongFormat, place: 0 });
+        return Err(Refusal {
+            cause: Cause::WrongFormat,
+            place: 0,
+        });
     }
     let inputs = count(image, at);
     let gates = count(image, at + GATES);
     if !rules::counts_in_range(inputs, gates, count(image, at + OUTPUTS)) {
-        return Err(Refusal { cause: Cause::WrongCounts, place: 0 });
+        return Err(Refusal {
+            cause: Cause::WrongCounts,
+            place: 0,
+        });
     }
     if !back_right(image) {
-        return Err(Refusal { cause: Cause::WrongBack, place: 0 });
+        return Err(Refusal {
+            cause: Cause::WrongBack,
+            place: 0,
+        });
     }
     Ok(())
 }

@@ -58,6 +58,9 @@ answer-on v value r why e is = passed-on r why is ∙ sym (rw e refl)
 pub answer-fine : {A : Type 0} (v : Judgement) (value : A) → v ≡ Fine → answer v value ≡ Ok value
 answer-fine v value e = rw e refl
 
+pub answer-refused : {A : Type 0} (v : Judgement) (value : A) (a : Cause) (p : ℕ) → v ≡ refused a p → answer v value ≡ Err (record { cause = a; place = p })
+answer-refused v value a p e = rw e refl
+
 -- what an answer tells of its judgement
 pub answer-told : {A : Type 0} (v : Judgement) (value : A) (r : Result A Refusal) → r ≡ answer v value
     → ((x : A) → r ≡ Ok x → (v ≡ Fine) × (x ≡ value)) × ((why : Refusal) → r ≡ Err why → v ≡ Err why)
