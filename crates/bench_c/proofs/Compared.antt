@@ -9,7 +9,7 @@ use Rattle.calls.specs.Judgements.{image_judgement}
 use Rattle.calls.proofs.Judgements.{only-judged}
 use Rattle.comparison.specs.declared.Image.{Image}
 use Rattle.comparison.specs.declared.Image.TheVariants.{First, Second}
-use Rattle.comparison.specs.declared.Compared.{Compared}
+use Rattle.comparison.specs.Standing.{Compared}
 use Rattle.comparison.specs.declared.ErrorRead.TheVariants.{Done as ErrorDone, Refused as ErrorRefused}
 use Rattle.comparison.specs.Images.{error_read, compared_if, compared}
 use Rattle.bench_c.specs.Codes.{code}
