@@ -9,7 +9,7 @@ ghost use Rattle.model.specs.Model.{key_number, gates_key, listed, gates_of};
 ghost use Rattle.model.specs.Counts.{over_fault};
 ghost use Rattle.model.specs.Tables.{key_at, run_start, run_many, lines_from, Collected, Heads};
 
-use refusal::Judgement;
+use refusal::{Cause, Refusal};
 use statements::Keyword;
 
 // Keywords by number.
@@ -73,7 +73,7 @@ pub fn judge_count(
     n: usize,
     wanted: usize,
     most: usize,
-) -> Judgement
+) -> Result<(), Refusal>
     requires { Places text.now starts.now n × (n ≤ length lines.now) × (n ≤ most_words) × (most < 65_536) }
     ensures { result ≡ over_fault (listed wanted (lines_from text.now starts.now lines.now n 0)) most }
 {
@@ -83,12 +83,15 @@ pub fn judge_count(
         let rest = statements::line_rest(lines, k, n);
         let many = run_many(key_at(text, starts, k), wanted, rest);
         if many > left {
-            return Judgement::Refused(refusal::TEXT_MODEL, names::line(lines, k));
+            return Err(Refusal {
+                cause: Cause::TextModel,
+                place: names::line(lines, k),
+            });
         }
         left -= many;
         k += rest + 1;
     }
-    Judgement::Fine
+    Ok(())
 }
 
 // The `many` entries from `start` on, put into a table after `count` others.
