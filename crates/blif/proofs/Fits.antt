@@ -18,6 +18,7 @@ use Rattle.statements.specs.Lines.{Line}
 use Rattle.statements.specs.Fit.{keyword_of, after_gate, fit_as, fit, is_misfit, fault}
 use Rattle.model.specs.Model.{key_number, key_of, gates_key, gates_of, no_gate}
 use Rattle.blif.specs.Stages.{Fitting}
+use Rattle.refusal.specs.declared.Cause.TheVariants.{TextLine}
 
 pub key-names : (k : Keyword) → key_number k ≡ gates_key → k ≡ Names
 key-names Model e = absurd (omega arith)
@@ -58,7 +59,7 @@ all_fit p (l ∷ ls) last e j h = go (is_misfit (fit p l.words)) refl (eqb (key_
     go : (b : Bool) → is_misfit (fit p l.words) ≡ b → (d : Bool) → eqb (key_of l.words) gates_key ≡ d → (j : ℕ) → j < length (gates_of (l ∷ ls))
         → (fault (fit p l.words) ls last ≡ Fine → (j : ℕ) → j < length (gates_of ls) → Right (get_or (gates_of ls) j no_gate).head.words)
         → Right (get_or (gates_of (l ∷ ls)) j no_gate).head.words
-    go true q d k j h ih = refused-not-fine 18 l.number (rw q at e)
+    go true q d k j h ih = refused-not-fine TextLine l.number (rw q at e)
     go false q true k zero h ih = rw k (line-fits p l.words q (eqb-true (key_of l.words) gates_key k))
     go false q true k (suc j) h ih = rw k (ih (rw q at e) j (less (rw k at h)))
       where
@@ -70,4 +71,4 @@ pub fitting : (ls : List Line) (last : ℕ) → fault Before ls last ≡ Fine �
 fitting ls last e = record { some = λ j h. (all_fit Before ls last e j h).0; few = λ j h. (all_fit Before ls last e j h).1 }
 
 pub no_line : (last : ℕ) → fault Before [] last ≡ Fine → ⊥
-no_line last e = refused-not-fine 18 last e
+no_line last e = refused-not-fine TextLine last e

@@ -12,7 +12,7 @@ ghost use Rattle.model.specs.Counts.{earlier, some_fault, count_fault};
 ghost use Rattle.writing.specs.Written.{Words};
 ghost use Rattle.blif.specs.Answer.{blif_read};
 
-use refusal::Judgement;
+use refusal::{Cause, Refusal};
 
 // Done with the image's length in bytes, or refused with number and place.
 #[derive(Clone, Copy)]
@@ -49,7 +49,10 @@ fn write_fitting(
 {
     let needed = image::RECORD_BYTES * gates + image::OUTPUT_BYTES * outputs + image::TRAILER_BYTES;
     if image.len() < needed {
-        return BlifRead::Refused(refusal::IMAGE_SLICE, 0);
+        return Err(Refusal {
+            cause: Cause::ImageSlice,
+            place: 0,
+        });
     }
     writing::write_image(
         text, starts, lines, n, heads, pins, counts, outs, place, order, inputs, gates, outputs,
@@ -226,7 +229,7 @@ fn read_names(text: &[u8], starts: &[u16], lines: &[u16], n: usize, image: &mut 
 }
 
 // Of two refusals the one at the lower line.
-fn earlier(first: Judgement, second: Judgement) -> Judgement
+fn earlier(first: Judgement, second: Judgement) -> Result<(), Refusal>
     ensures { result ≡ earlier first second }
 {
     match first {
@@ -245,7 +248,7 @@ fn earlier(first: Judgement, second: Judgement) -> Judgement
 }
 
 // A model without an output is refused at its last line, `.end`.
-fn judge_some(text: &[u8], starts: &[u16], lines: &[u16], n: usize) -> Judgement
+fn judge_some(text: &[u8], starts: &[u16], lines: &[u16], n: usize) -> Result<(), Refusal>
     requires { Words text.now starts.now lines.now n × (0 < n) }
     ensures { result ≡ some_fault (lines_from text.now starts.now lines.now n 0) }
 {
@@ -256,7 +259,7 @@ fn judge_some(text: &[u8], starts: &[u16], lines: &[u16], n: usize) -> Judgement
 }
 
 // Refusal 19 for counts outside the image's.
-fn judge_counts(text: &[u8], starts: &[u16], lines: &[u16], n: usize) -> Judgement
+fn judge_counts(text: &[u8], starts: &[u16], lines: &[u16], n: usize) -> Result<(), Refusal>
     requires { Words text.now starts.now lines.now n × (0 < n) }
     ensures { result ≡ count_fault (lines_from text.now starts.now lines.now n 0) }
 {
@@ -289,7 +292,10 @@ pub fn read_blif(text: &[u8], image: &mut [u8]) -> BlifRead
     ensures image_after { image.new ≡ blif_left text.now image.old }
 {
     if text.len() > texts::MOST_BYTES {
-        return BlifRead::Refused(refusal::TEXT_LINE, 0);
+        return Err(Refusal {
+            cause: Cause::TextLine,
+            place: 0,
+        });
     }
     let mut starts = [0u16; texts::MOST_WORDS];
     let mut lines = [0u16; texts::MOST_WORDS];

@@ -10,7 +10,7 @@ ghost use Rattle.names.specs.Names.{is_name};
 
 use refusal::{Cause, Refusal};
 
-#[derive(Clone, Copy)]
+#[derive(Clone, Copy, PartialEq, Eq)]
 pub enum Keyword {
     Model,
     Inputs,
