@@ -3,8 +3,7 @@
 
 ghost use Rattle.std.specs.Prelude.{◌≡◌, ℕ, ◌+◌, ◌*◌, ◌/◌, ◌%◌, ◌^◌, ◌<◌, ◌≤◌, eqb, length, get_or};
 ghost use Rattle.lists.specs.Lists.{sum_below, all_zero};
-ghost use Rattle.refusal.specs.declared.Judgement.TheVariants.{Fine};
-ghost use Rattle.refusal.specs.Judgement.{lowest};
+ghost use Rattle.refusal.specs.Judgement.{Fine, lowest};
 ghost use Rattle.rounding.specs.Rounding.{units_in_one};
 ghost use Rattle.area.specs.Layout as layout;
 ghost use Rattle.area.specs.Rules.{NetSound, Workable};
@@ -18,7 +17,7 @@ ghost use Rattle.average.specs.WeightedSum.{weighted_to, BlockAdds};
 ghost use Rattle.plan.specs.Plan.{row_bits, NextLive, Unseen};
 ghost use Rattle.average.specs.Blocks.{row_count, LiveWords, ValuesFrom, RowsKept, RowsHeld, row_word, Block, OutputsFit};
 
-use refusal::Judgement;
+use refusal::{Cause, Refusal};
 
 // The number of no row: every source tells it from each row that there is.
 pub const NO_ROW: usize = area::MOST_PATTERNS / rows::LANES;
@@ -45,22 +44,18 @@ fn all_zero(weights: &[u32]) -> bool
 }
 
 // Refusal 12 in its order: the length, then the lowest weight that is too large, then no weight at all.
-pub fn judge_weights(inputs: usize, weights: &[u32]) -> Judgement
+pub fn judge_weights(inputs: usize, weights: &[u32]) -> Result<(), Refusal>
     requires { inputs ≤ layout.most_inputs }
     ensures { result ≡ weights_judgement inputs weights.now }
 {
     if weights.len() != 1 << inputs {
-        return Judgement::Refused(refusal::WEIGHTS, 0);
+        return Err(Refusal { cause: Cause::WrongWeights, place: 0 });
     }
-    match refusal::judge_each(weights, area::LARGEST_WEIGHT, refusal::WEIGHTS) {
-        Judgement::Fine => {
-            if all_zero(weights) {
-                return Judgement::Refused(refusal::WEIGHTS, 0);
-            }
-            Judgement::Fine
-        }
-        Judgement::Refused(number, place) => Judgement::Refused(number, place),
+    refusal::judge_each(weights, area::LARGEST_WEIGHT, Cause::WrongWeights)?;
+    if all_zero(weights) {
+        return Err(Refusal { cause: Cause::WrongWeights, place: 0 });
     }
+    Ok(())
 }
 
 fn total_weight(weights: &[u32]) -> u64

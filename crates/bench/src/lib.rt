@@ -19,7 +19,7 @@ ghost use Rattle.bench.specs.Answers.{opened, toggled, flip_set, gate_read, aver
 
 use chance::FlipUnits;
 use netlist::Method;
-use refusal::Judgement;
+use refusal::{Cause, Refusal};
 
 // The answers: what a call has done, or why it has done nothing, by number and place.
 #[derive(Clone, Copy)]
@@ -86,7 +86,7 @@ fn open_fitting(area: &mut [u32], words: &[u32], live: u32, sum: u64) -> Opened
 {
     let needed = area::needed(area::gates(words), area::outputs(words));
     if area.len() < needed {
-        return Opened::Refused(refusal::TOO_SHORT, 0);
+        return Err(Refusal { cause: Cause::AreaTooShort, place: 0 });
     }
     area::store(area, 0, &words[..needed]);
     work::work_all(area);
@@ -107,7 +107,7 @@ fn open_loaded(area: &mut [u32], words: &[u32]) -> Opened
     let counted = live::count_live(words);
     let readers = counted.readers;
     match live::judge_shared(&readers, inputs, gates) {
-        Judgement::Fine => {
+        Ok(()) => {
             let live = live::live_gates(&readers, inputs, gates);
             open_fitting(area, words, live, counted.sum)
         }
@@ -122,50 +122,50 @@ pub fn open(area: &mut [u32], image: &[u8]) -> Opened
 {
     let mut words = [0u32; area::MOST_WORDS];
     match image::load(image, &mut words) {
-        Judgement::Fine => open_loaded(area, &words),
+        Ok(()) => open_loaded(area, &words),
         Judgement::Refused(number, place) => Opened::Refused(number, place),
     }
 }
 
 // Refusal 10: the number named, of so many.
-fn judge_named(number: u32, count: usize) -> Judgement
+fn judge_named(number: u32, count: usize) -> Result<(), Refusal>
     ensures { result ≡ judged.named number count }
 {
     if area::index(number) < count {
-        Judgement::Fine
+        Ok(())
     } else {
-        Judgement::Refused(refusal::NOT_THERE, number)
+        Err(Refusal { cause: Cause::NotThere, place: number })
     }
 }
 
 // The area's own refusal, then refusal 10: the number named against the count that a word of the head holds.
-fn judge_counted(area: &[u32], word: usize, named: u32) -> Judgement
+fn judge_counted(area: &[u32], word: usize, named: u32) -> Result<(), Refusal>
     requires { word < head_words }
     ensures { result ≡ otherwise (area_judgement area.now) (judged.named named (get_or area.now word 0)) }
 {
     match rules::judge(area) {
-        Judgement::Fine => judge_named(named, area::index(area[word])),
+        Ok(()) => judge_named(named, area::index(area[word])),
         Judgement::Refused(number, place) => Judgement::Refused(number, place),
     }
 }
 
-fn judge_toggle(area: &[u32], input: u32) -> Judgement
+fn judge_toggle(area: &[u32], input: u32) -> Result<(), Refusal>
     ensures { result ≡ judgement area.now (toggle_input input) }
 {
     judge_counted(area, area::INPUTS, input)
 }
 
-fn judge_gate(area: &[u32], gate: u32) -> Judgement
+fn judge_gate(area: &[u32], gate: u32) -> Result<(), Refusal>
     ensures { result ≡ judgement area.now (read_gate gate) }
 {
     judge_counted(area, area::GATES, gate)
 }
 
-fn judge_average(area: &[u32], weights: &[u32]) -> Judgement
+fn judge_average(area: &[u32], weights: &[u32]) -> Result<(), Refusal>
     ensures { result ≡ judgement area.now (take_average weights.now) }
 {
     match rules::judge(area) {
-        Judgement::Fine => average::judge_weights(area::inputs(area), weights),
+        Ok(()) => average::judge_weights(area::inputs(area), weights),
         Judgement::Refused(number, place) => Judgement::Refused(number, place),
     }
 }
@@ -179,31 +179,31 @@ fn last_pattern(inputs: usize) -> u32
 }
 
 // Refusals 15, 16 and 17 in their order: how many patterns, the lowest that is too large, fewer counts than gates.
-fn judge_listed(inputs: usize, gates: usize, patterns: &[u32], slots: usize) -> Judgement
+fn judge_listed(inputs: usize, gates: usize, patterns: &[u32], slots: usize) -> Result<(), Refusal>
     requires { inputs ≤ layout.most_inputs }
     ensures { result ≡ judged.counts_judgement inputs gates patterns.now slots }
 {
     if patterns.len() < 1 || area::MOST_LISTED < patterns.len() {
-        return Judgement::Refused(refusal::LIST_LENGTH, 0);
+        return Err(Refusal { cause: Cause::ListLength, place: 0 });
     }
-    match refusal::judge_each(patterns, last_pattern(inputs), refusal::LISTED_PATTERN) {
-        Judgement::Fine => {
+    match refusal::judge_each(patterns, last_pattern(inputs), Cause::ListedPattern) {
+        Ok(()) => {
             if slots < gates {
-                return Judgement::Refused(refusal::COUNT_SLICE, 0);
+                return Err(Refusal { cause: Cause::CountSlice, place: 0 });
             }
-            Judgement::Fine
+            Ok(())
         }
         Judgement::Refused(number, place) => Judgement::Refused(number, place),
     }
 }
 
 // The area's own refusal, then the list's and the slice's: the same for either method.
-fn judge_counts(area: &[u32], patterns: &[u32], slots: usize) -> Judgement
+fn judge_counts(area: &[u32], patterns: &[u32], slots: usize) -> Result<(), Refusal>
     ensures { result ≡ otherwise (area_judgement area.now)
         (judged.counts_judgement (layout.inputs area.now) (gates area.now) patterns.now slots) }
 {
     match rules::judge(area) {
-        Judgement::Fine => judge_listed(area::inputs(area), area::gates(area), patterns, slots),
+        Ok(()) => judge_listed(area::inputs(area), area::gates(area), patterns, slots),
         Judgement::Refused(number, place) => Judgement::Refused(number, place),
     }
 }
@@ -214,7 +214,7 @@ pub fn toggle_input(area: &mut [u32], input: u32) -> Toggled
     ensures area_after { area.new ≡ left area.old (toggle_input input) }
 {
     match judge_toggle(area, input) {
-        Judgement::Fine => {
+        Ok(()) => {
             work::toggle(area, area::index(input));
             Toggled::Done
         }
@@ -223,12 +223,12 @@ pub fn toggle_input(area: &mut [u32], input: u32) -> Toggled
 }
 
 // The last part of refusal 14 and refusal 10, of an area that has passed the others.
-fn judge_gate_summed(area: &[u32], gate: u32, sum: u64) -> Judgement
+fn judge_gate_summed(area: &[u32], gate: u32, sum: u64) -> Result<(), Refusal>
     requires { (words_judgement area.now ≡ Judgement.Fine) × (sum ≡ flip_sum area.now) }
     ensures { result ≡ judgement area.now (read_gate gate) }
 {
     match rules::judge_sum(area, sum) {
-        Judgement::Fine => judge_named(gate, area::gates(area)),
+        Ok(()) => judge_named(gate, area::gates(area)),
         Judgement::Refused(number, place) => Judgement::Refused(number, place),
     }
 }
@@ -254,8 +254,8 @@ fn set_known_flip(
             area::store_sum(area, live::changed_sum(sum, live, old, units));
             FlipSet::Done
         }
-        FlipUnits::AboveHalf => FlipSet::Refused(refusal::ABOVE_HALF, gate),
-        FlipUnits::Refused => FlipSet::Refused(refusal::CALL_FLIP, gate),
+        FlipUnits::AboveHalf => Err(Refusal { cause: Cause::ChanceAboveHalf, place: gate }),
+        FlipUnits::Refused => Err(Refusal { cause: Cause::CallFlip, place: gate }),
     }
 }
 
@@ -274,7 +274,7 @@ fn set_counted(
     ensures area_after { area.new ≡ left area.old (set_flip gate kind field) }
 {
     match judge_gate_summed(area, gate, sum) {
-        Judgement::Fine => {
+        Ok(()) => {
             let live = counted[area::inputs(area) + area::index(gate)];
             set_known_flip(area, gate, kind, field, live, sum)
         }
@@ -289,7 +289,7 @@ pub fn set_flip(area: &mut [u32], gate: u32, kind: u8, field: [u8; 8]) -> FlipSe
     ensures area_after { area.new ≡ left area.old (set_flip gate kind field) }
 {
     match rules::judge_words(area) {
-        Judgement::Fine => {
+        Ok(()) => {
             let counted = live::count_live(area);
             let readers = counted.readers;
             set_counted(area, gate, kind, field, &readers, counted.sum)
@@ -303,7 +303,7 @@ pub fn read_netlist(area: &[u32]) -> NetlistRead
     ensures { NetlistAnswer (judgement area.now read_netlist) (pattern area.now) (reliability_word area.now) result }
 {
     match rules::judge(area) {
-        Judgement::Fine => {
+        Ok(()) => {
             let units = area[area::RELIABILITY];
             NetlistRead::Done {
                 pattern: area[area::PATTERN],
@@ -321,7 +321,7 @@ pub fn read_gate(area: &[u32], gate: u32) -> GateRead
         (figure area.now gate / 2) }
 {
     match judge_gate(area, gate) {
-        Judgement::Fine => {
+        Ok(()) => {
             let word = area::figure(area, area::index(gate));
             GateRead::Done {
                 right: word % 2,
@@ -339,7 +339,7 @@ pub fn average(area: &mut [u32], weights: &[u32]) -> Averaged
     ensures area_after { area.new ≡ left area.old (take_average weights.now) }
 {
     match judge_average(area, weights) {
-        Judgement::Fine => Averaged::Done(average::average(area, weights)),
+        Ok(()) => Averaged::Done(average::average(area, weights)),
         Judgement::Refused(number, place) => Averaged::Refused(number, place),
     }
 }
@@ -350,7 +350,7 @@ fn count_seen(area: &[u32], patterns: &[u32], counts: &mut [u32], method: Method
     ensures counts_after { counts.new ≡ counts_left area.now method patterns.now counts.old }
 {
     match judge_counts(area, patterns, counts.len()) {
-        Judgement::Fine => {
+        Ok(()) => {
             counts::count(area, patterns, counts, method);
             Counted::Done
         }
@@ -380,7 +380,7 @@ pub fn write_image(area: &[u32], image: &mut [u8]) -> ImageWritten
     ensures image_after { image.new ≡ image_left area.now image.old }
 {
     match written::judge_write(area, image.len()) {
-        Judgement::Fine => {
+        Ok(()) => {
             written::write_image(area, image);
             ImageWritten::Done(written::image_length(area) as u32)
         }

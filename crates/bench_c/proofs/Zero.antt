@@ -17,6 +17,7 @@ use Rattle.blif.specs.Reading.{blif_refusal}
 use Rattle.blif.proofs.Numbers.{only-blif}
 use Rattle.bench_c.specs.Codes.{code}
 use Rattle.std.specs.Prelude.{Err}
+use Rattle.refusal.specs.declared.Cause.TheVariants.{AreaTooShort, AreaRule}
 
 abbrev Positive : ℕ → Type 0
 Positive number = 0 < number
@@ -24,13 +25,13 @@ Positive number = 0 < number
 of_words : (ws : List ℕ) → Only Positive (words_judgement ws)
 unfolding words_judgement
 of_words ws =
-    only-otherwise Positive _ _ (only-unless Positive (leb head_words (length ws)) 13 0 (omega arith))
-    (only-otherwise Positive _ _ (only-unless Positive (counts_in_range (inputs ws) (gates ws) (outputs ws)) 14 0 (omega arith))
-    (only-otherwise Positive _ _ (λ a p e. (only-room (gates ws) (outputs ws) (length ws) a p e).0) (only-unless Positive (rest_sound ws) 14 0 (omega arith))))
+    only-otherwise Positive _ _ (only-unless Positive (leb head_words (length ws)) AreaTooShort 0 (omega arith))
+    (only-otherwise Positive _ _ (only-unless Positive (counts_in_range (inputs ws) (gates ws) (outputs ws)) AreaRule 0 (omega arith))
+    (only-otherwise Positive _ _ (λ a p e. (only-room (gates ws) (outputs ws) (length ws) a p e).0) (only-unless Positive (rest_sound ws) AreaRule 0 (omega arith))))
 
 of-area : (ws : List ℕ) → Only Positive (area_judgement ws)
 unfolding area_judgement
-of-area ws = only-otherwise Positive _ _ (of_words ws) (only-unless Positive (sum_right ws) 14 0 (omega arith))
+of-area ws = only-otherwise Positive _ _ (of_words ws) (only-unless Positive (sum_right ws) AreaRule 0 (omega arith))
 
 of-lent : (ws : List ℕ) (call : Call) → Only Positive (lent_judgement ws call)
 unfolding lent_judgement

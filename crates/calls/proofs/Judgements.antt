@@ -31,13 +31,13 @@ use Rattle.calls.specs.Judgements.{Call, open_image, toggle_input, set_flip, rea
 use Rattle.calls.specs.Judgements.{named, flip_judgement, weight_judgement, weights_judgement, WeightsFit, listed_judgement, counts_judgement, slice_judgement}
 use Rattle.calls.specs.Judgements.{open_judgement, image_judgement, JudgedAsOpened, argument_judgement, lent_judgement}
 use Rattle.refusal.specs.declared.Cause.{Cause}
-use Rattle.refusal.specs.declared.Cause.TheVariants.{NotThere, WrongWeights, AreaTooShort, ListLength, WrittenSlice}
+use Rattle.refusal.specs.declared.Cause.TheVariants.{NotThere, CallFlip, WrongWeights, AreaTooShort, ListLength, ListedPattern, CountSlice, WrittenSlice}
 use Rattle.std.specs.Prelude.{Err}
 
 -- ---- 10 to 13, 15 to 17, 21, 22
 
 pub named-fine : (x count : ℕ) → named x count ≡ Fine → x < count
-named-fine x count e = ltb-true x count (unless-fine (ltb x count) 10 x e)
+named-fine x count e = ltb-true x count (unless-fine (ltb x count) NotThere x e)
 
 pub fine-named : (x count : ℕ) → x < count → named x count ≡ Fine
 fine-named x count l = rw (lt-ltb x count l) refl
@@ -46,7 +46,7 @@ pub named_past : (x count : ℕ) → count ≤ x → named x count ≡ refused N
 named_past x count l = rw (le-ltb x count l) refl
 
 pub room-fine : (g k size : ℕ) → room_judgement g k size ≡ Fine → needed g k ≤ size
-room-fine g k size e = leb-true (needed g k) size (unless-fine (leb (needed g k) size) 13 0 e)
+room-fine g k size e = leb-true (needed g k) size (unless-fine (leb (needed g k) size) AreaTooShort 0 e)
 
 pub fine-room : (g k size : ℕ) → needed g k ≤ size → room_judgement g k size ≡ Fine
 fine-room g k size l = rw (le-leb (needed g k) size l) refl
@@ -60,9 +60,9 @@ weights-fine n weights e =
     let first = otherwise-fine (refuse_unless (eqb (length weights) (2 ^ n)) WrongWeights 0) _ e in
     let later = otherwise-fine (lowest (weight_judgement weights) (length weights)) _ first.1 in
     record {
-      one_each = eqb-true _ _ (unless-fine _ 12 0 first.0);
-      small = λ q l. leb-true _ _ (unless-fine _ 12 q (lowest-fine (weight_judgement weights) (length weights) q l later.0));
-      some = not-true _ (unless-fine _ 12 0 later.1);
+      one_each = eqb-true _ _ (unless-fine _ WrongWeights 0 first.0);
+      small = λ q l. leb-true _ _ (unless-fine _ WrongWeights q (lowest-fine (weight_judgement weights) (length weights) q l later.0));
+      some = not-true _ (unless-fine _ WrongWeights 0 later.1);
     }
 
 -- of a list and a slice that pass, what the work needs
@@ -73,10 +73,10 @@ counts-fine n g patterns slots e =
     let few = leb (length patterns) most_listed in
     let first = otherwise-fine (refuse_unless (some && few) ListLength 0) _ e in
     let later = otherwise-fine (lowest (listed_judgement n patterns) (length patterns)) _ first.1 in
-    (leb-true _ _ (both some few (unless-fine _ 15 0 first.0)).1, leb-true _ _ (unless-fine _ 17 0 later.1))
+    (leb-true _ _ (both some few (unless-fine _ ListLength 0 first.0)).1, leb-true _ _ (unless-fine _ CountSlice 0 later.1))
 
 pub slice-fine : (g k room : ℕ) → slice_judgement g k room ≡ Fine → image_length g k ≤ room
-slice-fine g k room e = leb-true (image_length g k) room (unless-fine (leb (image_length g k) room) 21 0 e)
+slice-fine g k room e = leb-true (image_length g k) room (unless-fine (leb (image_length g k) room) WrittenSlice 0 e)
 
 pub fine-slice : (g k room : ℕ) → image_length g k ≤ room → slice_judgement g k room ≡ Fine
 fine-slice g k room l = rw (le-leb (image_length g k) room l) refl
@@ -99,7 +99,7 @@ pub set-fine : (n g k x kind : ℕ) (field : List ℕ) → argument_judgement n 
 unfolding argument_judgement
 set-fine n g k x kind field e =
     let both = otherwise-fine (named x g) (flip_judgement x kind field) e in
-    let flip = flip-fine 11 x kind field both.1 in
+    let flip = flip-fine CallFlip x kind field both.1 in
     (named-fine x g both.0, flip.0, flip.1)
 
 pub write-fine : (n g k room : ℕ) → argument_judgement n g k (write_image room) ≡ Fine → image_length g k ≤ room
@@ -168,12 +168,12 @@ judged-in-most bs =
 -- ---- the numbers: none is 0, and 14 is the area's alone
 
 pub only-room : (g k size : ℕ) → Only NotRule (room_judgement g k size)
-only-room g k size = only-unless NotRule (leb (needed g k) size) 13 0 (omega arith, omega arith)
+only-room g k size = only-unless NotRule (leb (needed g k) size) AreaTooShort 0 (omega arith, omega arith)
 
 only-weights : (n : ℕ) (weights : List ℕ) → Only NotRule (weights_judgement n weights)
 unfolding weights_judgement
 only-weights n weights =
-    let one : (c : Bool) (p : ℕ) → Only NotRule (refuse_unless c WrongWeights p) = λ c p. only-unless NotRule c 12 p (omega arith, omega arith) in
+    let one : (c : Bool) (p : ℕ) → Only NotRule (refuse_unless c WrongWeights p) = λ c p. only-unless NotRule c WrongWeights p (omega arith, omega arith) in
     only-otherwise NotRule _ _ (one (eqb (length weights) (2 ^ n)) 0)
     (only-otherwise NotRule _ _
     (only-lowest NotRule (weight_judgement weights) (length weights) (λ q. one (leb (get_or weights q 0) largest_weight) q))
@@ -183,14 +183,14 @@ only-counts : (n g : ℕ) (patterns : List ℕ) (slots : ℕ) → Only NotRule (
 unfolding counts_judgement
 only-counts n g patterns slots =
     only-otherwise NotRule _ _
-    (only-unless NotRule (leb 1 (length patterns) && leb (length patterns) most_listed) 15 0 (omega arith, omega arith))
+    (only-unless NotRule (leb 1 (length patterns) && leb (length patterns) most_listed) ListLength 0 (omega arith, omega arith))
     (only-otherwise NotRule _ _
     (only-lowest NotRule (listed_judgement n patterns) (length patterns) (λ i.
-    only-unless NotRule (leb (get_or patterns i 0) (2 ^ n - 1)) 16 i (omega arith, omega arith)))
-    (only-unless NotRule (leb g slots) 17 0 (omega arith, omega arith)))
+    only-unless NotRule (leb (get_or patterns i 0) (2 ^ n - 1)) ListedPattern i (omega arith, omega arith)))
+    (only-unless NotRule (leb g slots) CountSlice 0 (omega arith, omega arith)))
 
 only-named : (x count : ℕ) → Only NotRule (named x count)
-only-named x count = only-unless NotRule (ltb x count) 10 x (omega arith, omega arith)
+only-named x count = only-unless NotRule (ltb x count) NotThere x (omega arith, omega arith)
 
 pub only-arguments : (n g k : ℕ) (call : Call) → Only NotRule (argument_judgement n g k call)
 unfolding argument_judgement
@@ -198,12 +198,12 @@ only-arguments n g k (open_image bs) = only-fine NotRule
 only-arguments n g k (toggle_input i) = only-named i n
 only-arguments n g k (set_flip x kind field) =
     only-otherwise NotRule (named x g) (flip_judgement x kind field) (only-named x g)
-    (only-flip 11 x kind field (omega arith, omega arith))
+    (only-flip CallFlip x kind field (omega arith, omega arith))
 only-arguments n g k read_netlist = only-fine NotRule
 only-arguments n g k (read_gate x) = only-named x g
 only-arguments n g k (take_average weights) = only-weights n weights
 only-arguments n g k (count_seen method patterns slots) = only-counts n g patterns slots
-only-arguments n g k (write_image room) = only-unless NotRule (leb (image_length g k) room) 21 0 (omega arith, omega arith)
+only-arguments n g k (write_image room) = only-unless NotRule (leb (image_length g k) room) WrittenSlice 0 (omega arith, omega arith)
 
 pub only-open : (bs : List ℕ) (size : ℕ) → Only NotRule (open_judgement bs size)
 unfolding open_judgement

@@ -12,7 +12,7 @@ use Rattle.live.specs.Shared.{shared_judgement}
 use Rattle.image.specs.Image.{image_length, image_gates, image_outputs}
 use Rattle.image.specs.Refusals.{flip_refusal, image_refusal}
 use Rattle.image.specs.Netlist.{image_net}
-use Rattle.refusal.specs.declared.Cause.TheVariants.{NotThere, WrongWeights, ListLength, ListedPattern, CountSlice, WrittenSlice}
+use Rattle.refusal.specs.declared.Cause.TheVariants.{NotThere, CallFlip, WrongWeights, ListLength, ListedPattern, CountSlice, WrittenSlice}
 
 -- the calls that are lent an area, with their other arguments
 pub data Call : Type 0 where
@@ -33,7 +33,7 @@ named x count = refuse_unless (ltb x count) NotThere x
 
 -- 11: the flip that a call gives would get 7 in an image; then 22
 abbrev pub flip_judgement : ℕ → ℕ → List ℕ → Judgement
-flip_judgement g kind field = flip_refusal 11 g kind field
+flip_judgement g kind field = flip_refusal CallFlip g kind field
 
 -- 12: not one weight for each pattern, else the lowest that is too large, else none but zeros
 abbrev pub weight_judgement : List ℕ → ℕ → Judgement

@@ -2,13 +2,15 @@
 -- document 02, card 1, in how many listed patterns each gate's flip is seen; for card 3 an exact half in each place that rounds, both ways; for card 5 raw
 -- flip sums; and for card 8 the chances on either side of 0.5.
 -- `SheetsHold` says that the definitions give the table; proofs/Sheets.antt proves it.
-use Rattle.std.specs.Prelude.{ℕ, ◌+◌, ◌-◌, ◌*◌, ◌/◌, ◌%◌, ◌^◌, List, [], ◌∷◌, ◌++◌, map, ◌≡◌, replicate}
+use Rattle.std.specs.Prelude.{ℕ, ◌+◌, ◌-◌, ◌*◌, ◌/◌, ◌%◌, ◌^◌, List, [], ◌∷◌, ◌++◌, map, ◌≡◌, replicate, Result, Ok, Err}
 use Rattle.lists.specs.Lists.{joined}
 use Rattle.refusal.specs.Judgement.{Judgement}
-use Rattle.refusal.specs.Judgement.{Fine, refused}
+use Rattle.refusal.specs.Judgement.{Fine, refused as refusal}
 use Rattle.refusal.specs.Judgement.{unless_refused}
-use Rattle.chance.specs.declared.FlipUnits.{FlipUnits}
-use Rattle.chance.specs.declared.FlipUnits.TheVariants.{Units, AboveHalf}
+use Rattle.refusal.specs.declared.Cause.{Cause}
+use Rattle.refusal.specs.declared.Cause.TheVariants.{SharedGate, ChanceAboveHalf}
+use Rattle.chance.specs.declared.FlipFault.{FlipFault}
+use Rattle.chance.specs.declared.FlipFault.TheVariants.{AboveHalf}
 use Rattle.chance.specs.Number.{chance_scale}
 use Rattle.chance.specs.Flip.{flip_units, read_units}
 use Rattle.netlist.specs.declared.Method.{Method}
@@ -52,13 +54,13 @@ pub record Conversion : Type 0 where
   pub kind : ℕ
   pub field : List ℕ
   pub units : ℕ
-  pub read : FlipUnits
+  pub read : Result ℕ FlipFault
 
 abbrev pub let_in : ℕ → List ℕ → ℕ → Conversion
-let_in kind field units = record { kind = kind; field = field; units = units; read = Units units }
+let_in kind field units = record { kind = kind; field = field; units = units; read = Ok units }
 
 abbrev pub too_high : ℕ → List ℕ → ℕ → Conversion
-too_high kind field units = record { kind = kind; field = field; units = units; read = AboveHalf }
+too_high kind field units = record { kind = kind; field = field; units = units; read = Err AboveHalf }
 
 abbrev pub conversions : List Conversion
 conversions =
@@ -190,9 +192,9 @@ accepted image live reliabilities average failures exact parts =
       parts = parts;
     }
 
-abbrev pub refused : List ℕ → ℕ → ℕ → ℕ → Opening
-refused image live number place =
-    record { image = image; judged = refused number place; live = live; reliabilities = []; average = 0; failures = []; exact = []; parts = 1 }
+abbrev pub refused : List ℕ → ℕ → Cause → ℕ → Opening
+refused image live cause place =
+    record { image = image; judged = refusal cause place; live = live; reliabilities = []; average = 0; failures = []; exact = []; parts = 1 }
 
 -- image, live gates, reliabilities, average, failures, exact sums of so many parts
 abbrev pub openings : List Opening
@@ -203,14 +205,14 @@ openings =
     (53_687_091 ∷ 53_687_091 ∷ []) (replicate 8 4_686_047_914_827_681_907_366_887_202_708_521) (2 ^ 112)
     ∷ accepted and_inverter_image 2 (replicate 4 971_736_351) 971_736_351
     (53_687_091 ∷ 102_005_473 ∷ []) (replicate 4 2_349_514_328_487_009_488_939_682_662_145_065) (2 ^ 111)
-    ∷ refused sure_buffers_image 2 22 0
+    ∷ refused sure_buffers_image 2 ChanceAboveHalf 0
     ∷ accepted no_gates_image 0 (replicate 2 1_073_741_824) 1_073_741_824 [] (replicate 2 1) 1
-    ∷ refused gate_twice_image 2 9 0
+    ∷ refused gate_twice_image 2 SharedGate 0
     ∷ accepted input_twice_image 1 (replicate 2 1_073_741_824) 1_073_741_824 (0 ∷ []) (replicate 2 1) 1
     ∷ accepted dead_reader_image 2 (replicate 2 536_870_912) 536_870_912 (536_870_912 ∷ 536_870_912 ∷ 536_870_912 ∷ []) (replicate 2 1) 2
     -- 0.5 in both of two buffers in a row; and in the second the f64 after it
     ∷ accepted (in_a_row half half) 2 (replicate 2 536_870_912) 536_870_912 (536_870_912 ∷ 536_870_912 ∷ []) (replicate 2 1) 2
-    ∷ refused (in_a_row half past_half) 2 22 1
+    ∷ refused (in_a_row half past_half) 2 ChanceAboveHalf 1
     -- a gate step at a half: 268,435,456.5 goes down, 32,767.5 goes up
     ∷ accepted (in_a_row (power 2) (power 30)) 2 (replicate 2 805_306_368) 805_306_368
     (268_435_456 ∷ 268_435_456 ∷ []) (replicate 2 1_610_612_735) (2 ^ 31)

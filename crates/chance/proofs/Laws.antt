@@ -14,12 +14,13 @@ use lib.Ieee.Digits.{Equals}
 use lib.Ieee.Bits.{of_bits-fits}
 use lib.Ieee.Positive.{num, den, den_pos}
 use lib.Pow.{pow-add}
+use Rattle.std.specs.Prelude.{Option, Some, None, Result, Ok, Err}
+use Rattle.std.specs.Option.{ok_or}
 use Rattle.rounding.specs.Rounding.{units_in_one, units_in_half, to_units}
 use Rattle.rounding.proofs.Laws.{at_most}
 use Rattle.chance.specs.declared.Flip.{Flip}
+use Rattle.chance.specs.declared.FlipFault.TheVariants.{Unreadable, AboveHalf}
 use Rattle.chance.specs.declared.Flip.TheVariants.{Never, Plain, Strike as Struck}
-use Rattle.chance.specs.declared.FlipRead.TheVariants.{Accepted, Refused}
-use Rattle.chance.specs.declared.FlipUnits.TheVariants.{Units, AboveHalf, Refused as NoUnits}
 use Rattle.chance.specs.Number.{chance_scale, whole_chance, at_most_half, from_zero_to_one, chance_bits}
 use Rattle.chance.specs.Flip.{first_half, second_half, whole_field, in_range, flip_of, flip_accepted, chance_of, flip_chance}
 use Rattle.chance.specs.Flip.{flip_units, read_flip, units_if, read_units}
@@ -48,57 +49,66 @@ cond-second : {A : Type 0} (b : Bool) (x y z : A) → (x ≡ z → ⊥) → cond
 cond-second true x y z other e = absurd (other e)
 cond-second false x y z other e = refl
 
+-- an option as a result, with a fault for none: what it was
+pub was_some : {A E : Type 0} (o : Option A) (e : E) (r : Result A E) (x : A) → r ≡ ok_or o e → r ≡ Ok x → o ≡ Some x
+was_some None e r x p q = let z : ◌≡◌ {A = ℕ} 0 1 = cc in absurd (omega arith)
+was_some (Some y) e r x p q = cc
+
+pub was_none : {A E : Type 0} (o : Option A) (e : E) (r : Result A E) (y : E) → r ≡ ok_or o e → r ≡ Err y → (o ≡ None) × (y ≡ e)
+was_none None e r y p q = (refl, cc)
+was_none (Some x) e r y p q = let z : ◌≡◌ {A = ℕ} 0 1 = cc in absurd (omega arith)
+
 -- what an answer says of the field, before conversion
-pub read-accepted : (kind : ℕ) (field : List ℕ) (flip : Flip) → read_flip kind field ≡ Accepted flip
+pub read-accepted : (kind : ℕ) (field : List ℕ) (flip : Flip) → read_flip kind field ≡ Some flip
     → (flip_accepted kind field ≡ true) × (flip_of kind field ≡ flip)
 unfolding read_flip
 read-accepted kind field flip e =
-    let r = cond-first (flip_accepted kind field) (Accepted (flip_of kind field)) Refused (Accepted flip) (λ p. let z : ◌≡◌ {A = ℕ} 0 1 = cc in omega arith) e in
-    let f : Accepted (flip_of kind field) ≡ Accepted flip = r.1 in
+    let r = cond-first (flip_accepted kind field) (Some (flip_of kind field)) None (Some flip) (λ p. let z : ◌≡◌ {A = ℕ} 0 1 = cc in omega arith) e in
+    let f : Some (flip_of kind field) ≡ Some flip = r.1 in
     (r.0, cc)
 
-pub read-refused : (kind : ℕ) (field : List ℕ) → read_flip kind field ≡ Refused → flip_accepted kind field ≡ false
+pub read-refused : (kind : ℕ) (field : List ℕ) → read_flip kind field ≡ None → flip_accepted kind field ≡ false
 unfolding read_flip
 read-refused kind field e =
-    cond-second (flip_accepted kind field) (Accepted (flip_of kind field)) Refused Refused (λ p. let z : ◌≡◌ {A = ℕ} 0 1 = cc in omega arith) e
+    cond-second (flip_accepted kind field) (Some (flip_of kind field)) None None (λ p. let z : ◌≡◌ {A = ℕ} 0 1 = cc in omega arith) e
 
 -- a flip that was read is in range
-pub read-in-range : (kind : ℕ) (field : List ℕ) (flip : Flip) → read_flip kind field ≡ Accepted flip → in_range flip ≡ true
+pub read-in-range : (kind : ℕ) (field : List ℕ) (flip : Flip) → read_flip kind field ≡ Some flip → in_range flip ≡ true
 read-in-range kind field flip e =
     let said = read-accepted kind field flip e in
     subst (λ (f : Flip). in_range f ≡ true) said.1 (accepted-in-range kind field said.0)
 
 -- the chance of the flip that was read is that of the field
-pub read-chance : (kind : ℕ) (field : List ℕ) (flip : Flip) → read_flip kind field ≡ Accepted flip → chance_of flip ≡ flip_chance kind field
+pub read-chance : (kind : ℕ) (field : List ℕ) (flip : Flip) → read_flip kind field ≡ Some flip → chance_of flip ≡ flip_chance kind field
 unfolding flip_chance
 read-chance kind field flip e = ap chance_of (sym (read-accepted kind field flip e).1)
 
 -- and in units: what each answer says of the field
-pub units-accepted : (kind : ℕ) (field : List ℕ) (units : ℕ) → read_units kind field ≡ Units units
+pub units-accepted : (kind : ℕ) (field : List ℕ) (units : ℕ) → read_units kind field ≡ Ok units
     → (flip_accepted kind field ≡ true) × (at_most_half (flip_chance kind field) ≡ true) × (flip_units kind field ≡ units)
 unfolding read_units
 units-accepted kind field units e = go (flip_accepted kind field) (at_most_half (flip_chance kind field)) (flip_units kind field) e
   where
-    go : (a low : Bool) (n : ℕ) → units_if a low n ≡ Units units → (a ≡ true) × (low ≡ true) × (n ≡ units)
+    go : (a low : Bool) (n : ℕ) → units_if a low n ≡ Ok units → (a ≡ true) × (low ≡ true) × (n ≡ units)
     go true true n e = (refl, refl, cc)
     go true false n e = let z : ◌≡◌ {A = ℕ} 0 1 = cc in absurd (omega arith)
     go false low n e = let z : ◌≡◌ {A = ℕ} 0 1 = cc in absurd (omega arith)
 
-pub units-above : (kind : ℕ) (field : List ℕ) → read_units kind field ≡ AboveHalf
+pub units-above : (kind : ℕ) (field : List ℕ) → read_units kind field ≡ Err AboveHalf
     → (flip_accepted kind field ≡ true) × (at_most_half (flip_chance kind field) ≡ false)
 unfolding read_units
 units-above kind field e = go (flip_accepted kind field) (at_most_half (flip_chance kind field)) (flip_units kind field) e
   where
-    go : (a low : Bool) (n : ℕ) → units_if a low n ≡ AboveHalf → (a ≡ true) × (low ≡ false)
+    go : (a low : Bool) (n : ℕ) → units_if a low n ≡ Err AboveHalf → (a ≡ true) × (low ≡ false)
     go true true n e = let z : ◌≡◌ {A = ℕ} 0 1 = cc in absurd (omega arith)
     go true false n e = (refl, refl)
     go false low n e = let z : ◌≡◌ {A = ℕ} 0 1 = cc in absurd (omega arith)
 
-pub units-refused : (kind : ℕ) (field : List ℕ) → read_units kind field ≡ NoUnits → flip_accepted kind field ≡ false
+pub units-refused : (kind : ℕ) (field : List ℕ) → read_units kind field ≡ Err Unreadable → flip_accepted kind field ≡ false
 unfolding read_units
 units-refused kind field e = go (flip_accepted kind field) (at_most_half (flip_chance kind field)) (flip_units kind field) e
   where
-    go : (a low : Bool) (n : ℕ) → units_if a low n ≡ NoUnits → a ≡ false
+    go : (a low : Bool) (n : ℕ) → units_if a low n ≡ Err Unreadable → a ≡ false
     go true true n e = let z : ◌≡◌ {A = ℕ} 0 1 = cc in absurd (omega arith)
     go true false n e = let z : ◌≡◌ {A = ℕ} 0 1 = cc in absurd (omega arith)
     go false low n e = refl

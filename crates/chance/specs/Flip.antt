@@ -1,15 +1,13 @@
 -- A gate's flip field, as its kind and the list of its eight bytes: document 01, "The netlist image".
-use Rattle.std.specs.Prelude.{ℕ, zero, suc, ◌+◌, ◌*◌, Bool, true, false, cond, ◌&&◌, List, get_or, eqb}
+use Rattle.std.specs.Prelude.{ℕ, zero, suc, ◌+◌, ◌*◌, Bool, true, false, cond, ◌&&◌, List, get_or, eqb, Option, Some, None, Result, Ok, Err}
 use Rattle.std.specs.Float.{binary32, binary64}
 use Rattle.std.specs.Float.Ieee.{of_bits}
 use Rattle.std.specs.Float.Ieee.Positive.{num, den}
 use Rattle.rounding.specs.Rounding.{units_in_one, to_units}
 use Rattle.chance.specs.declared.Flip.{Flip}
 use Rattle.chance.specs.declared.Flip.TheVariants.{Never, Plain, Strike as Struck}
-use Rattle.chance.specs.declared.FlipRead.{FlipRead}
-use Rattle.chance.specs.declared.FlipRead.TheVariants.{Accepted, Refused}
-use Rattle.chance.specs.declared.FlipUnits.{FlipUnits}
-use Rattle.chance.specs.declared.FlipUnits.TheVariants.{Units, AboveHalf, Refused as NoUnits}
+use Rattle.chance.specs.declared.FlipFault.{FlipFault}
+use Rattle.chance.specs.declared.FlipFault.TheVariants.{Unreadable, AboveHalf}
 use Rattle.chance.specs.Number.{chance_scale, whole_chance, at_most_half, from_zero_to_one}
 
 -- little-endian numbers: four bytes, the field's two halves, and the whole field
@@ -66,15 +64,15 @@ unfoldable pub flip_units : ℕ → List ℕ → ℕ
 flip_units kind field = to_units units_in_one chance_scale (flip_chance kind field)
 
 -- the answer of reading a field: what it says, or refused
-abbrev pub read_if : Bool → Flip → FlipRead
-read_if accepted flip = cond accepted (Accepted flip) Refused
+abbrev pub read_if : Bool → Flip → Option Flip
+read_if accepted flip = cond accepted (Some flip) None
 
-unfoldable pub read_flip : ℕ → List ℕ → FlipRead
+unfoldable pub read_flip : ℕ → List ℕ → Option Flip
 read_flip kind field = read_if (flip_accepted kind field) (flip_of kind field)
 
 -- the answer of reading a field in units: refused, or above 0.5 before conversion, or its units
-abbrev pub units_if : Bool → Bool → ℕ → FlipUnits
-units_if accepted low units = cond accepted (cond low (Units units) AboveHalf) NoUnits
+abbrev pub units_if : Bool → Bool → ℕ → Result ℕ FlipFault
+units_if accepted low units = cond accepted (cond low (Ok units) (Err AboveHalf)) (Err Unreadable)
 
-unfoldable pub read_units : ℕ → List ℕ → FlipUnits
+unfoldable pub read_units : ℕ → List ℕ → Result ℕ FlipFault
 read_units kind field = units_if (flip_accepted kind field) (at_most_half (flip_chance kind field)) (flip_units kind field)

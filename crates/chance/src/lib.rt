@@ -23,17 +23,11 @@ pub enum Flip {
     Strike(Strike),
 }
 
-#[derive(Clone, Copy)]
-pub enum FlipRead {
-    Accepted(Flip),
-    Refused,
-}
-
-#[derive(Clone, Copy)]
-pub enum FlipUnits {
-    Units(u32),
+// Why a flip field has no units: its kind or its numbers are none, or its chance is above 0.5.
+#[derive(Clone, Copy, PartialEq, Eq)]
+pub enum FlipFault {
+    Unreadable,
     AboveHalf,
-    Refused,
 }
 
 // The bit patterns of 1, of 0.5 and of minus zero.
@@ -68,43 +62,36 @@ pub fn four_bytes(a: u8, b: u8, c: u8, d: u8) -> u32
 fn is_chance(bits: u64, one: u64, minus_zero: u64) -> bool
     ensures { result ≡ chance_bits one minus_zero bits }
 {
-    if bits <= one {
-        return true;
-    }
-    bits == minus_zero
+    bits <= one || bits == minus_zero
 }
 
-fn read_never(bits: u64) -> FlipRead
+fn read_never(bits: u64) -> Option<Flip>
     ensures { result ≡ read_if (eqb bits 0) Flip.Never }
 {
-    if bits == 0 {
-        FlipRead::Accepted(Flip::Never)
-    } else {
-        FlipRead::Refused
-    }
+    if bits == 0 { Some(Flip::Never) } else { None }
 }
 
-fn read_plain(bits: u64) -> FlipRead
+fn read_plain(bits: u64) -> Option<Flip>
     ensures { result ≡ read_if (in_range (plain_of bits)) (plain_of bits) }
 {
     if is_chance(bits, ONE_F64, MINUS_ZERO_F64) {
-        FlipRead::Accepted(Flip::Plain(f64::from_bits(bits)))
+        Some(Flip::Plain(f64::from_bits(bits)))
     } else {
-        FlipRead::Refused
+        None
     }
 }
 
 // A bad number is refused even where the other one is 0.
-fn read_strike(chance: u32, window: u32) -> FlipRead
+fn read_strike(chance: u32, window: u32) -> Option<Flip>
     ensures { result ≡ read_if (in_range (strike_of chance window)) (strike_of chance window) }
 {
     if !is_chance(chance as u64, ONE_F32, MINUS_ZERO_F32) {
-        return FlipRead::Refused;
+        return None;
     }
     if !is_chance(window as u64, ONE_F32, MINUS_ZERO_F32) {
-        return FlipRead::Refused;
+        return None;
     }
-    FlipRead::Accepted(Flip::Strike(Strike {
+    Some(Flip::Strike(Strike {
         chance: f32::from_bits(chance),
         window: f32::from_bits(window),
     }))
@@ -129,14 +116,14 @@ fn whole_field(field: [u8; 8]) -> u64
 }
 
 // Reads a flip field, whatever its bytes.
-pub fn read_flip(kind: u8, field: [u8; 8]) -> FlipRead
+pub fn read_flip(kind: u8, field: [u8; 8]) -> Option<Flip>
     ensures { result ≡ read_flip kind field }
 {
     match kind {
         0 => read_never(whole_field(field)),
         1 => read_plain(whole_field(field)),
         2 => read_strike(first_half(field), second_half(field)),
-        _ => FlipRead::Refused,
+        _ => None,
     }
 }
 
@@ -196,19 +183,15 @@ fn above_half(chance: f64) -> bool
 }
 
 // Reads a flip field, holds its chance to 0.5 and converts it: what the image reader and the call that sets a flip use.
-pub fn read_units(kind: u8, field: [u8; 8]) -> FlipUnits
+pub fn read_units(kind: u8, field: [u8; 8]) -> Result<u32, FlipFault>
     ensures { result ≡ read_units kind field }
 {
-    match read_flip(kind, field) {
-        FlipRead::Accepted(flip) => {
-            let chance = exact_chance(flip);
-            if above_half(chance) {
-                FlipUnits::AboveHalf
-            } else {
-                FlipUnits::Units(nearest_units(chance))
-            }
-        }
-        FlipRead::Refused => FlipUnits::Refused,
+    let flip = read_flip(kind, field).ok_or(FlipFault::Unreadable)?;
+    let chance = exact_chance(flip);
+    if above_half(chance) {
+        Err(FlipFault::AboveHalf)
+    } else {
+        Ok(nearest_units(chance))
     }
 }
 

@@ -3,7 +3,7 @@
 
 ghost use Rattle.std.specs.Prelude.{◌≡◌, Bool, ℕ, ◌+◌, ◌^◌, ◌<◌, ◌≤◌, length, get_or};
 ghost use Rattle.lists.specs.Lists.{sum_below};
-ghost use Rattle.refusal.specs.declared.Judgement.TheVariants.{Fine};
+ghost use Rattle.refusal.specs.Judgement.{Fine};
 ghost use Rattle.rounding.specs.Rounding.{units_in_one, round_div};
 ghost use Rattle.figure.specs.Figure.{bit_of};
 ghost use Rattle.bound.specs.Sharp.{error_halves};

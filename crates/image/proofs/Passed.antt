@@ -9,7 +9,9 @@ use Rattle.lists.proofs.Joined.{joined-turn}
 use Rattle.refusal.specs.Judgement.{Judgement}
 use Rattle.refusal.specs.Judgement.{Fine, refused}
 use Rattle.refusal.specs.Judgement.{lowest, otherwise}
-use Rattle.refusal.proofs.Laws.{lowest-more, lowest-refused, otherwise-first, refused-not-fine}
+use Rattle.std.specs.Prelude.{Err, IsErrAnd}
+use Rattle.refusal.specs.declared.Refusal.{Refusal}
+use Rattle.refusal.proofs.Laws.{passed-on, lowest-more, lowest-refused, otherwise-first, refused-not-fine}
 use Rattle.refusal.specs.declared.Cause.{Cause}
 
 -- before place j: of the words l those from base on are now those of the places passed, and none of these is refused
@@ -41,9 +43,18 @@ module _ {f : ℕ → Judgement} {g : ℕ → List ℕ} {base j : ℕ} {l ws : L
   stops k a p r new below step told =
       (sym (lowest-refused f k j a p below passed.fine (sym step ∙ told)), refused-not-fine a p)
 
+  -- the refusal that a `?` hands on
+  pub stops-on : (k : ℕ) (r out : Judgement) (new : List ℕ) (why : Refusal) → j < k → r ≡ f j → r ≡ Err why → IsErrAnd out (λ x. x ≡ why)
+      → Answered (lowest f k) l base (joined g k) out new
+  stops-on k r out new why below step told is = rw (passed-on out why is) (stops k why.cause why.place r new below step told)
+
   pub ends : (k : ℕ) → j ≡ k → Answered (lowest f k) l base (joined g k) Fine ws
   ends k e = (rw e at (sym passed.fine), λ q. rw e at passed.stored)
 
--- a first part that is refused
+-- a first part that is refused, and what a `?` hands on of it
 pub first-refused : {A : Type 0} (v w r : Judgement) (a : Cause) (p : ℕ) → r ≡ v → r ≡ refused a p → (refused a p ≡ otherwise v w) × (refused a p ≡ Fine → A)
 first-refused v w r a p e told = (sym (otherwise-first v w a p (sym e ∙ told)), refused-not-fine a p)
+
+pub first-refused-on : {A : Type 0} (v w r out : Judgement) (why : Refusal) → r ≡ v → r ≡ Err why → IsErrAnd out (λ x. x ≡ why)
+    → (out ≡ otherwise v w) × (out ≡ Fine → A)
+first-refused-on v w r out why e told is = rw (passed-on out why is) (first-refused v w r why.cause why.place e told)

@@ -15,6 +15,7 @@ use Rattle.image.specs.Image.{image_inputs, image_gates, image_outputs}
 use Rattle.image.specs.Image.{middle, record_count, record_kind, record_table, record_pins, record_field, output_at}
 use Rattle.image.specs.Refusals.{length_right, back_right, trailer_refusal, TrailerRight, gate_refusal, output_refusal, middle_refusal, image_refusal}
 use Rattle.image.proofs.Flips.{flip-fine}
+use Rattle.refusal.specs.declared.Cause.TheVariants.{WrongLength, WrongFormat, WrongCounts, WrongBack, GateShape, GatePin, GateFlip, OutputSource}
 
 -- ---- 1 to 4
 
@@ -24,15 +25,15 @@ trailer-right bs e =
     let one = otherwise-fine _ _ e in
     let two = otherwise-fine _ _ one.1 in
     let three = otherwise-fine _ _ two.1 in
-    let a = both _ _ (unless-fine _ 1 0 one.0) in
+    let a = both _ _ (unless-fine _ WrongLength 0 one.0) in
     let b = both _ _ a.1 in
-    let counts = counts_hold (image_inputs bs) (image_gates bs) (image_outputs bs) (unless-fine _ 3 0 three.0) in
-    let s = both _ _ (unless-fine _ 4 0 three.1) in
+    let counts = counts_hold (image_inputs bs) (image_gates bs) (image_outputs bs) (unless-fine _ WrongCounts 0 three.0) in
+    let s = both _ _ (unless-fine _ WrongBack 0 three.1) in
     record {
       low = leb-true _ _ a.0;
       high = leb-true _ _ b.0;
       total = eqb-true _ _ b.1;
-      format = eqb-true _ _ (unless-fine _ 2 0 two.0);
+      format = eqb-true _ _ (unless-fine _ WrongFormat 0 two.0);
       inputs_fit = counts.0;
       gates_fit = counts.1;
       some_output = counts.2;
@@ -56,11 +57,11 @@ gate-right m n j e =
     let ps = record_pins m j in
     let five = otherwise-fine _ _ e in
     let six = otherwise-fine _ _ five.1 in
-    let s = shape-holds a (record_table m j) ps (unless-fine _ 5 j five.0) in
-    let flip = flip-fine 7 j (record_kind m j) (record_field m j) six.1 in
+    let s = shape-holds a (record_table m j) ps (unless-fine _ GateShape j five.0) in
+    let flip = flip-fine GateFlip j (record_kind m j) (record_field m j) six.1 in
     record {
       shape = s;
-      below = λ i l. used-holds (n + j) a ps (unless-fine _ 6 j six.0) i l (omega (arith, s.few_pins));
+      below = λ i l. used-holds (n + j) a ps (unless-fine _ GatePin j six.0) i l (omega (arith, s.few_pins));
       accepted = flip.0;
       low = flip.1;
     }
@@ -83,5 +84,5 @@ image-right bs e =
     record {
       trailer = trailer-right bs whole.0;
       gate = λ j l. gate-right m n j (lowest-fine (gate_refusal m n) g j l inner.0);
-      output = λ k l. ltb-true _ _ (unless-fine _ 8 k (lowest-fine (output_refusal m n g) (image_outputs bs) k l inner.1));
+      output = λ k l. ltb-true _ _ (unless-fine _ OutputSource k (lowest-fine (output_refusal m n g) (image_outputs bs) k l inner.1));
     }

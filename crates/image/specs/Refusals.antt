@@ -8,7 +8,8 @@ use Rattle.refusal.specs.Judgement.{Judgement}
 use Rattle.refusal.specs.Judgement.{refuse_unless, otherwise, lowest}
 use Rattle.image.specs.Image.{longest_image, trailer_bytes, known_format, middle_bytes, trailer_at, image_inputs, image_gates, image_outputs}
 use Rattle.image.specs.Image.{image_format, image_back, image_total, middle, record_count, record_kind, record_table, record_pins, record_field, output_at}
-use Rattle.refusal.specs.declared.Cause.TheVariants.{WrongLength, WrongFormat, WrongCounts, WrongBack, GateShape, GatePin, OutputSource, ChanceAboveHalf}
+use Rattle.refusal.specs.declared.Cause.{Cause}
+use Rattle.refusal.specs.declared.Cause.TheVariants.{WrongLength, WrongFormat, WrongCounts, WrongBack, GateShape, GatePin, GateFlip, OutputSource, ChanceAboveHalf}
 
 -- 1: the length in range, and total the same
 unfoldable pub length_right : List ℕ → Bool
@@ -25,7 +26,7 @@ trailer_refusal bs =
     (otherwise (refuse_unless (counts_in_range (image_inputs bs) (image_gates bs) (image_outputs bs)) WrongCounts 0) (refuse_unless (back_right bs) WrongBack 0)))
 
 -- a flip for gate j: a bad kind or field has a number of its own in an image, 7, and in a call, 11; then 22, a chance above 0.5 before conversion
-unfoldable pub flip_refusal : ℕ → ℕ → ℕ → List ℕ → Judgement
+unfoldable pub flip_refusal : Cause → ℕ → ℕ → List ℕ → Judgement
 flip_refusal bad j kind field =
     otherwise (refuse_unless (flip_accepted kind field) bad j) (refuse_unless (at_most_half (flip_chance kind field)) ChanceAboveHalf j)
 
@@ -34,7 +35,7 @@ unfoldable pub gate_refusal : List ℕ → ℕ → ℕ → Judgement
 gate_refusal m n j =
     otherwise (refuse_unless (gate_shape (record_count m j) (record_table m j) (record_pins m j)) GateShape j)
     (otherwise (refuse_unless (used_below (n + j) (record_count m j) (record_pins m j)) GatePin j)
-    (flip_refusal 7 j (record_kind m j) (record_field m j)))
+    (flip_refusal GateFlip j (record_kind m j) (record_field m j)))
 
 -- 8 for output k of a netlist with n inputs and g gates
 unfoldable pub output_refusal : List ℕ → ℕ → ℕ → ℕ → Judgement

@@ -3,17 +3,17 @@
 
 ghost use Rattle.std.specs.Prelude.{◌≡◌, ◌+◌, ◌<◌, ◌≤◌, length};
 ghost use Rattle.std.proofs.lemmas.List.Edits.{sets};
-ghost use Rattle.refusal.specs.declared.Judgement.TheVariants.{Fine};
-ghost use Rattle.refusal.specs.Judgement.{lowest};
+ghost use Rattle.refusal.specs.Judgement.{Fine, lowest, answer};
+ghost use Rattle.chance.specs.Flip.{flip_units};
 ghost use Rattle.area.specs.Layout.{most_inputs, most_gates, most_outputs, most_words, head_words, gate_index, figure_index, outputs_index, needed};
 ghost use Rattle.image.specs.Image.{trailer_bytes, middle_bytes, record_bytes, output_bytes, u16_at, u32_at, four_numbers, eight_bytes, record_at};
 ghost use Rattle.image.specs.Image.{image_gates, middle, record_kind};
 ghost use Rattle.image.specs.Refusals.{length_right, back_right, trailer_refusal, TrailerRight};
-ghost use Rattle.image.specs.Refusals.{gate_refusal, output_refusal, middle_refusal, netlist_refusal, image_refusal};
+ghost use Rattle.image.specs.Refusals.{flip_refusal, gate_refusal, output_refusal, middle_refusal, netlist_refusal, image_refusal};
 ghost use Rattle.image.specs.Loading.{record_words, output_word, gate_list, output_list, middle_words, image_words, image_over};
 
-use chance::FlipUnits;
-use refusal::Judgement;
+use chance::FlipFault;
+use refusal::{Cause, Refusal};
 
 const LONGEST_IMAGE: usize = 32_768;
 
@@ -96,8 +96,32 @@ fn eight_bytes(bytes: &[u8], at: usize) -> [u8; 8]
     ]
 }
 
+// The one place where a flip field without units is refused: one that cannot be read with the cause that is given, one above 0.5 with its own.
+pub fn units_of_flip(
+    kind: u8,
+    field: [u8; 8],
+    unreadable: Cause,
+    place: u32,
+) -> Result<u32, Refusal>
+    ensures { result ≡ answer (flip_refusal unreadable place kind field) (flip_units kind field) }
+{
+    match chance::read_units(kind, field) {
+        Ok(units) => Ok(units),
+        Err(fault) => match fault {
+            FlipFault::Unreadable => Err(Refusal {
+                cause: unreadable,
+                place,
+            }),
+            FlipFault::AboveHalf => Err(Refusal {
+                cause: Cause::ChanceAboveHalf,
+                place,
+            }),
+        },
+    }
+}
+
 // Gate j: refusals 5, 6, 7 and 22, else its words, the figure word 0.
-fn load_gate(middle: &[u8], inputs: usize, j: usize, words: &mut [u32]) -> Judgement
+fn load_gate(middle: &[u8], inputs: usize, j: usize, words: &mut [u32]) -> Result<(), Refusal>
     requires record_bytes_in_bounds { record_at j + record_bytes ≤ length middle.now }
     requires j_in_bounds { figure_index j < length words.old }
     requires inputs_le_most_inputs { (inputs ≤ most_inputs) × (j < most_gates) }
@@ -110,46 +134,46 @@ fn load_gate(middle: &[u8], inputs: usize, j: usize, words: &mut [u32]) -> Judge
     let table = two_bytes(middle, at + TABLE);
     let pins = four_numbers(middle, at + PINS);
     if !rules::gate_shape(used, table, pins) {
-        return Judgement::Refused(refusal::GATE_SHAPE, j as u32);
+        return Err(Refusal {
+            cause: Cause::GateShape,
+            place: j as u32,
+        });
     }
     if !rules::used_below(inputs + j, used, pins) {
-        return Judgement::Refused(refusal::GATE_PIN, j as u32);
+        return Err(Refusal {
+            cause: Cause::GatePin,
+            place: j as u32,
+        });
     }
-    match chance::read_units(middle[at + KIND], eight_bytes(middle, at + FIELD)) {
-        FlipUnits::Units(units) => {
-            let gate = [count, table, pins[0], pins[1], pins[2], pins[3], units, 0];
-            area::store(words, area::gate_index(j), &gate[..]);
-            Judgement::Fine
-        }
-        FlipUnits::AboveHalf => Judgement::Refused(refusal::ABOVE_HALF, j as u32),
-        FlipUnits::Refused => Judgement::Refused(refusal::GATE_FLIP, j as u32),
-    }
+    let field = eight_bytes(middle, at + FIELD);
+    let units = units_of_flip(middle[at + KIND], field, Cause::GateFlip, j as u32)?;
+    let gate = [count, table, pins[0], pins[1], pins[2], pins[3], units, 0];
+    area::store(words, area::gate_index(j), &gate[..]);
+    Ok(())
 }
 
 // Each gate in turn.
-fn load_gates(middle: &[u8], inputs: usize, gates: usize, words: &mut [u32]) -> Judgement
+fn load_gates(middle: &[u8], inputs: usize, gates: usize, words: &mut [u32]) -> Result<(), Refusal>
     requires gates_in_bounds { record_at gates ≤ length middle.now }
     requires gates_in_bounds_2 { outputs_index gates ≤ length words.old }
     requires inputs_le_most_inputs { (inputs ≤ most_inputs) × (gates ≤ most_gates) }
     ensures value { result ≡ lowest (gate_refusal middle.now inputs) gates }
     ensures words_after { result ≡ Fine → words.new ≡ sets words.old head_words (gate_list middle.now gates) }
 {
-    let mut j = 0;
-    while j < gates {
-        match load_gate(middle, inputs, j, words) {
-            Judgement::Fine => {
-                j += 1;
-            }
-            Judgement::Refused(number, place) => {
-                return Judgement::Refused(number, place);
-            }
-        }
+    for j in 0..gates {
+        load_gate(middle, inputs, j, words)?;
     }
-    Judgement::Fine
+    Ok(())
 }
 
 // Output k: refusal 8, else its word.
-fn load_output(middle: &[u8], inputs: usize, gates: usize, k: usize, words: &mut [u32]) -> Judgement
+fn load_output(
+    middle: &[u8],
+    inputs: usize,
+    gates: usize,
+    k: usize,
+    words: &mut [u32],
+) -> Result<(), Refusal>
     requires output_bytes_in_bounds { middle_bytes gates k + output_bytes ≤ length middle.now }
     requires k_in_bounds { outputs_index gates + k < length words.old }
     requires inputs_le_most_inputs { (inputs ≤ most_inputs) × (gates ≤ most_gates) × (k < most_outputs) }
@@ -158,10 +182,13 @@ fn load_output(middle: &[u8], inputs: usize, gates: usize, k: usize, words: &mut
 {
     let source = two_bytes(middle, RECORD_BYTES * gates + OUTPUT_BYTES * k);
     if area::index(source) >= inputs + gates {
-        return Judgement::Refused(refusal::OUTPUT, k as u32);
+        return Err(Refusal {
+            cause: Cause::OutputSource,
+            place: k as u32,
+        });
     }
     words[area::outputs_index(gates) + k] = source;
-    Judgement::Fine
+    Ok(())
 }
 
 // Each output in turn.
@@ -171,25 +198,17 @@ fn load_outputs(
     gates: usize,
     outputs: usize,
     words: &mut [u32],
-) -> Judgement
+) -> Result<(), Refusal>
     requires outputs_in_bounds { middle_bytes gates outputs ≤ length middle.now }
     requires outputs_in_bounds_2 { needed gates outputs ≤ length words.old }
     requires inputs_le_most_inputs { (inputs ≤ most_inputs) × (gates ≤ most_gates) × (outputs ≤ most_outputs) }
     ensures value { result ≡ lowest (output_refusal middle.now inputs gates) outputs }
     ensures words_after { result ≡ Fine → words.new ≡ sets words.old (outputs_index gates) (output_list middle.now gates outputs) }
 {
-    let mut k = 0;
-    while k < outputs {
-        match load_output(middle, inputs, gates, k, words) {
-            Judgement::Fine => {
-                k += 1;
-            }
-            Judgement::Refused(number, place) => {
-                return Judgement::Refused(number, place);
-            }
-        }
+    for k in 0..outputs {
+        load_output(middle, inputs, gates, k, words)?;
     }
-    Judgement::Fine
+    Ok(())
 }
 
 // The head of the area, and after it the gates and the outputs of an image's middle.
@@ -199,7 +218,7 @@ fn load_middle(
     gates: usize,
     outputs: usize,
     words: &mut [u32],
-) -> Judgement
+) -> Result<(), Refusal>
     requires outputs_in_bounds { middle_bytes gates outputs ≤ length middle.now }
     requires most_words_in_bounds { most_words ≤ length words.old }
     requires inputs_le_most_inputs { (inputs ≤ most_inputs) × (gates ≤ most_gates) × (outputs ≤ most_outputs) }
@@ -208,10 +227,8 @@ fn load_middle(
 {
     let head = [inputs as u32, gates as u32, outputs as u32, 0, 0, 0, 0, 0];
     area::store(words, 0, &head[..]);
-    match load_gates(middle, inputs, gates, words) {
-        Judgement::Fine => load_outputs(middle, inputs, gates, outputs, words),
-        Judgement::Refused(number, place) => Judgement::Refused(number, place),
-    }
+    load_gates(middle, inputs, gates, words)?;
+    load_outputs(middle, inputs, gates, outputs, words)
 }
 
 // Refusal 1 of an image that has a trailer.
@@ -242,32 +259,47 @@ fn back_right(image: &[u8]) -> bool
 }
 
 // Refusals 1 to 4; nothing is read of an image that is too short for a trailer.
-fn judge_trailer(image: &[u8]) -> Judgement
+fn judge_trailer(image: &[u8]) -> Result<(), Refusal>
     ensures { result ≡ trailer_refusal image.now }
 {
     if image.len() < TRAILER_BYTES {
-        return Judgement::Refused(refusal::LENGTH, 0);
+        return Err(Refusal {
+            cause: Cause::WrongLength,
+            place: 0,
+        });
     }
     if !length_right(image) {
-        return Judgement::Refused(refusal::LENGTH, 0);
+        return Err(Refusal {
+            cause: Cause::WrongLength,
+            place: 0,
+        });
     }
     let at = image.len() - TRAILER_BYTES;
     if two_bytes(image, at + FORMAT) != KNOWN_FORMAT {
-        return Judgement::Refused(refusal::FORMAT, 0);
+        return Err(Refusal {
+            cause: Cause::WrongFormat,
+            place: 0,
+        });
     }
     let inputs = count(image, at);
     let gates = count(image, at + GATES);
     if !rules::counts_in_range(inputs, gates, count(image, at + OUTPUTS)) {
-        return Judgement::Refused(refusal::COUNTS, 0);
+        return Err(Refusal {
+            cause: Cause::WrongCounts,
+            place: 0,
+        });
     }
     if !back_right(image) {
-        return Judgement::Refused(refusal::BACK, 0);
+        return Err(Refusal {
+            cause: Cause::WrongBack,
+            place: 0,
+        });
     }
-    Judgement::Fine
+    Ok(())
 }
 
 // The netlist of an image whose trailer is right. The middle is handed on as a part of the image.
-fn load_netlist(image: &[u8], words: &mut [u32]) -> Judgement
+fn load_netlist(image: &[u8], words: &mut [u32]) -> Result<(), Refusal>
     requires trailer_right { TrailerRight image.now }
     requires most_words_in_bounds { most_words ≤ length words.old }
     ensures value { result ≡ netlist_refusal image.now }
@@ -283,15 +315,13 @@ fn load_netlist(image: &[u8], words: &mut [u32]) -> Judgement
 
 // Reads an image, whatever its bytes, into the words of a work area whose figures are not worked out. The caller lends words enough for
 // every netlist; where the image is refused they hold nothing of use.
-pub fn load(image: &[u8], words: &mut [u32]) -> Judgement
+pub fn load(image: &[u8], words: &mut [u32]) -> Result<(), Refusal>
     requires { most_words ≤ length words.old }
     ensures value { result ≡ image_refusal image.now }
     ensures words_after { image_refusal image.now ≡ Fine → words.new ≡ image_over image.now words.old }
 {
-    match judge_trailer(image) {
-        Judgement::Fine => load_netlist(image, words),
-        Judgement::Refused(number, place) => Judgement::Refused(number, place),
-    }
+    judge_trailer(image)?;
+    load_netlist(image, words)
 }
 
 // The kind of a gate's flip, which no word of an area holds. The caller has judged the image.

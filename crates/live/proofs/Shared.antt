@@ -14,6 +14,7 @@ use Rattle.area.specs.Layout.{inputs, gates}
 use Rattle.area.specs.Net.{net_of}
 use Rattle.area.proofs.Net.{gate_count, same-readers}
 use Rattle.live.specs.Shared.{gate_shared, shared_by, shared_judgement}
+use Rattle.refusal.specs.declared.Cause.TheVariants.{SharedGate}
 
 -- who reads whom is in the pins and outputs alone
 pub shared_same : (ws ks cs ls ds : List ℕ) → shared_judgement (net_of ws ks cs) ≡ shared_judgement (net_of ws ls ds)
@@ -35,11 +36,11 @@ pub shared-single : (net : Netlist) → shared_judgement net ≡ Fine → Single
 unfolding shared_judgement SingleReaders
 shared-single net e j l =
     leb-true (readers net (net.inputs + j)) 1
-    (unless-fine _ 9 j (lowest-fine (gate_shared (readers net) net.inputs) (length net.gates) j l e))
+    (unless-fine _ SharedGate j (lowest-fine (gate_shared (readers net) net.inputs) (length net.gates) j l e))
 
 -- it gives 9 alone
 pub only_shared : (net : Netlist) → Only NotRule (shared_judgement net)
 unfolding shared_judgement
 only_shared net =
     only-lowest NotRule (gate_shared (readers net) net.inputs) (length net.gates) (λ i.
-    only-unless NotRule (leb (readers net (net.inputs + i)) 1) 9 i (omega arith, omega arith))
+    only-unless NotRule (leb (readers net (net.inputs + i)) 1) SharedGate i (omega arith, omega arith))

@@ -12,7 +12,7 @@ ghost use Rattle.area.specs.Sum.{flip_sum};
 ghost use Rattle.live.specs.Counted.{Counts, Added, gate_reads, live_counted};
 ghost use Rattle.live.specs.Shared.{shared_by};
 
-use refusal::Judgement;
+use refusal::{Cause, Refusal};
 
 // One reader more for each of the `many` sources that stand in the area from `start` on.
 fn add_reads(readers: &mut [u32; area::MOST_SOURCES], area: &[u32], start: usize, many: usize)
@@ -115,10 +115,10 @@ pub fn changed_sum(sum: u64, readers: u32, old: u32, new: u32) -> u64
 }
 
 // Refusal 9: the lowest gate with two readers or more.
-pub fn judge_shared(readers: &[u32], inputs: usize, gates: usize) -> Judgement
+pub fn judge_shared(readers: &[u32], inputs: usize, gates: usize) -> Result<(), Refusal>
     requires { (inputs + gates ≤ length readers.now) × (gates ≤ layout.most_gates) }
     ensures { result ≡ shared_by (λ s. get_or readers.now s 0) inputs gates }
 {
     let end = inputs + gates;
-    refusal::judge_each(&readers[inputs..end], 1, refusal::SHARED)
+    refusal::judge_each(&readers[inputs..end], 1, Cause::SharedGate)
 }

@@ -22,6 +22,7 @@ use Rattle.records.specs.Bytes.{Contents, no_field, net_contents, two_bytes, con
 use Rattle.records.specs.Passes.{Fits, four, ContentsPass, ContentsReadBack, Holdable, WrittenPasses}
 use Rattle.records.proofs.Length.{gates-bytes}
 use Rattle.records.proofs.Trailer.{two-again, inputs-again, gates-again, outputs-again, trailer-passes, middle-again}
+use Rattle.refusal.specs.declared.Cause.TheVariants.{GateFlip}
 
 -- four pins are all where those past the fourth are zero
 pub four-at : (ps : List ℕ) → ((i : ℕ) → 4 ≤ i → get_or ps i 0 ≡ 0) → (i : ℕ) → get_or (four ps) i 0 ≡ get_or ps i 0
@@ -109,7 +110,7 @@ module _ (w : Contents) (h : Fits w) where
     unfolding gate_refusal
     gate-passes =
         rw (
-          ap₂ (flip_refusal 7 j) kind-again field-again ∙ flip-passes 7 j (w.kind j) (w.field j) (h.gate j here).accepted (h.gate j here).low,
+          ap₂ (flip_refusal GateFlip j) kind-again field-again ∙ flip-passes GateFlip j (w.kind j) (w.field j) (h.gate j here).accepted (h.gate j here).low,
           count-again,
           table-again,
           pins-again,

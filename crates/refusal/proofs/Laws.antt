@@ -9,9 +9,11 @@ use native.Mathlib.Omega.{arith}
 use native.Mathlib.Nat.{not-suc-le-zero, eq-or-lt_of_le}
 use Rattle.refusal.specs.Judgement.{Judgement}
 use Rattle.refusal.specs.Judgement.{Fine, refused}
-use Rattle.refusal.specs.Judgement.{refuse_unless, otherwise, lowest, number_of}
+use Rattle.refusal.specs.Judgement.{refuse_unless, otherwise, lowest, answer, number_of}
 use Rattle.refusal.specs.declared.Cause.{Cause}
-use Rattle.std.specs.Prelude.{Err}
+use Rattle.std.specs.Prelude.{Result, Ok, Err, IsErrAnd}
+use Rattle.std.proofs.lemmas.Result.{err_from_is_err_and}
+use Rattle.refusal.specs.declared.Refusal.{Refusal}
 
 -- no judgement is both
 pub never_both : {A : Type 0} (v : Judgement) (a : Cause) (p : ℕ) → v ≡ Fine → v ≡ refused a p → A
@@ -40,6 +42,30 @@ otherwise-first v w a p e = rw e
 pub otherwise-assoc : (u v w : Judgement) → otherwise u (otherwise v w) ≡ otherwise (otherwise u v) w
 otherwise-assoc Fine v w = refl
 otherwise-assoc (Err why) v w = refl
+
+-- what a `?` hands on is the refusal that it met
+pub passed-on : {A E : Type 0} (r : Result A E) (e : E) → IsErrAnd r (λ x. x ≡ e) → r ≡ Err e
+passed-on r e is = let p = err_from_is_err_and r is in p.1 ∙ ap Err p.2
+
+-- and where the first of two judgements is refused it is the refusal of both
+pub first-on : (v w r : Judgement) (why : Refusal) → v ≡ Err why → IsErrAnd r (λ x. x ≡ why) → r ≡ otherwise v w
+first-on v w r why e is = passed-on r why is ∙ sym (otherwise-first v w why.cause why.place e)
+
+-- the answer of a call that is refused, and of one that is not
+pub answer-on : {A : Type 0} (v : Judgement) (value : A) (r : Result A Refusal) (why : Refusal) → v ≡ Err why → IsErrAnd r (λ x. x ≡ why) → r ≡ answer v value
+answer-on v value r why e is = passed-on r why is ∙ sym (rw e refl)
+
+pub answer-fine : {A : Type 0} (v : Judgement) (value : A) → v ≡ Fine → answer v value ≡ Ok value
+answer-fine v value e = rw e refl
+
+pub answer-refused : {A : Type 0} (v : Judgement) (value : A) (a : Cause) (p : ℕ) → v ≡ refused a p → answer v value ≡ Err (record { cause = a; place = p })
+answer-refused v value a p e = rw e refl
+
+-- what an answer tells of its judgement
+pub answer-told : {A : Type 0} (v : Judgement) (value : A) (r : Result A Refusal) → r ≡ answer v value
+    → ((x : A) → r ≡ Ok x → (v ≡ Fine) × (x ≡ value)) × ((why : Refusal) → r ≡ Err why → v ≡ Err why)
+answer-told Fine value r e = (λ x q. (refl, cc), λ why q. let z : ◌≡◌ {A = ℕ} 0 1 = cc in absurd (omega arith))
+answer-told (Err why') value r e = (λ x q. let z : ◌≡◌ {A = ℕ} 0 1 = cc in absurd (omega arith), λ why q. cc)
 
 module _ (f : ℕ → Judgement) where
   -- one place more without a refusal

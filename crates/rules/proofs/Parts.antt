@@ -31,5 +31,5 @@ last-refused n p e = rw e
 pub next : {a : Bool} (n : Cause) (p : ℕ) (j : Judgement) → a ≡ true → otherwise (refuse_unless a n p) j ≡ j
 next n p j e = rw e
 
-pub refused : {a : Bool} (n : Cause) (p : ℕ) (j : Judgement) → a ≡ false → otherwise (refuse_unless a n p) j ≡ refused n p
-refused n p j e = rw e
+pub first-refused : {a : Bool} (n : Cause) (p : ℕ) (j : Judgement) → a ≡ false → otherwise (refuse_unless a n p) j ≡ refused n p
+first-refused n p j e = rw e

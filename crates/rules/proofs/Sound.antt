@@ -98,9 +98,9 @@ workable ws e =
     let p = otherwise-fine (refuse_unless (leb head_words (length ws)) AreaTooShort 0) (otherwise counts (otherwise room rest)) e in
     let q = otherwise-fine counts (otherwise room rest) p.1 in
     let r = otherwise-fine room rest q.1 in
-    let n = counts_hold (inputs ws) (gates ws) (outputs ws) (unless-fine _ 14 0 q.0) in
-    let long = leb-true (needed (gates ws) (outputs ws)) (length ws) (unless-fine _ 13 0 r.0) in
-    let t = rest-holds ws (unless-fine (rest_sound ws) 14 0 r.1) in
+    let n = counts_hold (inputs ws) (gates ws) (outputs ws) (unless-fine _ AreaRule 0 q.0) in
+    let long = leb-true (needed (gates ws) (outputs ws)) (length ws) (unless-fine _ AreaTooShort 0 r.0) in
+    let t = rest-holds ws (unless-fine (rest_sound ws) AreaRule 0 r.1) in
     record {
       net = record {
         inputs_fit = n.0;
@@ -125,10 +125,10 @@ workable-passes ws s =
     let net = s.net in
     let figures = s.figures in
     let few = length-take (outputs ws) (drop (outputs_index (gates ws)) ws) in
-    next 13 0 _ (le-leb head_words (length ws) (omega arith))
-    ∙ next 14 0 _ (counts-pass (inputs ws) (gates ws) (outputs ws) net.inputs_fit net.gates_fit net.some_output net.outputs_fit)
-    ∙ next 13 0 _ (le-leb (needed (gates ws) (outputs ws)) (length ws) net.long)
-    ∙ none 14 0
+    next AreaTooShort 0 _ (le-leb head_words (length ws) (omega arith))
+    ∙ next AreaRule 0 _ (counts-pass (inputs ws) (gates ws) (outputs ws) net.inputs_fit net.gates_fit net.some_output net.outputs_fit)
+    ∙ next AreaTooShort 0 _ (le-leb (needed (gates ws) (outputs ws)) (length ws) net.long)
+    ∙ none AreaRule 0
     (rest-passes ws
     (record {
       gate = λ j l.
@@ -157,11 +157,11 @@ pub sound : (ws : List ℕ) → area_judgement ws ≡ Fine → Sound ws
 unfolding area_judgement
 sound ws e =
     let p = otherwise-fine (words_judgement ws) (refuse_unless (sum_right ws) AreaRule 0) e in
-    record { workable = workable ws p.0; sum = sum-holds ws (unless-fine (sum_right ws) 14 0 p.1) }
+    record { workable = workable ws p.0; sum = sum-holds ws (unless-fine (sum_right ws) AreaRule 0 p.1) }
 
 pub sound-passes : (ws : List ℕ) → Sound ws → area_judgement ws ≡ Fine
 unfolding area_judgement
-sound-passes ws s = otherwise-second (words_judgement ws) _ (workable-passes ws s.workable) ∙ none 14 0 (sum-passes ws s.sum)
+sound-passes ws s = otherwise-second (words_judgement ws) _ (workable-passes ws s.workable) ∙ none AreaRule 0 (sum-passes ws s.sum)
 
 -- an area that passes all but the sum, or not even that
 pub past_words : (ws : List ℕ) → words_judgement ws ≡ Fine → area_judgement ws ≡ refuse_unless (sum_right ws) AreaRule 0

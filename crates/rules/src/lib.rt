@@ -8,7 +8,7 @@ ghost use Rattle.area.specs.Layout as layout;
 ghost use Rattle.area.specs.Sum.{flip_sum};
 ghost use Rattle.area.specs.Rules.{gate_shape, used_below, gate_sound, gates_sound, counts_in_range, rest_sound, sum_right, words_judgement, area_judgement};
 
-use refusal::Judgement;
+use refusal::{Cause, Refusal};
 
 // Rule 5, the truth table: no bit at or above 2^count.
 fn table_fits(count: usize, table: u32) -> bool
@@ -213,24 +213,24 @@ fn rest_sound(area: &[u32]) -> bool
 }
 
 // Refusals 13 and 14 of an area but for the sum. Its length by the counts is tried only when the counts are in range.
-pub fn judge_words(area: &[u32]) -> Judgement
+pub fn judge_words(area: &[u32]) -> Result<(), Refusal>
     ensures { result ≡ words_judgement area.now }
 {
     if area.len() < area::HEAD_WORDS {
-        return Judgement::Refused(refusal::TOO_SHORT, 0);
+        return Err(Refusal { cause: Cause::AreaTooShort, place: 0 });
     }
     let gates = area::gates(area);
     let outputs = area::outputs(area);
     if !counts_in_range(area::inputs(area), gates, outputs) {
-        return Judgement::Refused(refusal::AREA_RULE, 0);
+        return Err(Refusal { cause: Cause::AreaRule, place: 0 });
     }
     if area.len() < area::needed(gates, outputs) {
-        return Judgement::Refused(refusal::TOO_SHORT, 0);
+        return Err(Refusal { cause: Cause::AreaTooShort, place: 0 });
     }
     if !rest_sound(area) {
-        return Judgement::Refused(refusal::AREA_RULE, 0);
+        return Err(Refusal { cause: Cause::AreaRule, place: 0 });
     }
-    Judgement::Fine
+    Ok(())
 }
 
 // Rule 14, last: two words hold the raw flip sum, and the reserved word is zero.
@@ -248,23 +248,21 @@ fn sum_right(area: &[u32], sum: u64) -> bool
 }
 
 // The last part of refusal 14, of an area that has passed the others.
-pub fn judge_sum(area: &[u32], sum: u64) -> Judgement
+pub fn judge_sum(area: &[u32], sum: u64) -> Result<(), Refusal>
     requires { (layout.head_words ≤ length area.now) × (sum ≡ flip_sum area.now) }
-    ensures { result ≡ refuse_unless (sum_right area.now) 14 0 }
+    ensures { result ≡ refuse_unless (sum_right area.now) Cause.AreaRule 0 }
 {
     if sum_right(area, sum) {
-        Judgement::Fine
+        Ok(())
     } else {
-        Judgement::Refused(refusal::AREA_RULE, 0)
+        Err(Refusal { cause: Cause::AreaRule, place: 0 })
     }
 }
 
 // Refusals 13 and 14 of an area.
-pub fn judge(area: &[u32]) -> Judgement
+pub fn judge(area: &[u32]) -> Result<(), Refusal>
     ensures { result ≡ area_judgement area.now }
 {
-    match judge_words(area) {
-        Judgement::Fine => judge_sum(area, live::count_live(area).sum),
-        Judgement::Refused(number, place) => Judgement::Refused(number, place),
-    }
+    judge_words(area)?;
+    judge_sum(area, live::count_live(area).sum)
 }

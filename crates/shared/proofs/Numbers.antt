@@ -10,9 +10,10 @@ use Rattle.image.specs.Netlist.{image_net}
 use Rattle.image.proofs.Numbers.{only-image}
 use Rattle.sets.specs.Sets.{most_shared}
 use Rattle.shared.specs.Shared.{shared_image_judgement}
+use Rattle.refusal.specs.declared.Cause.TheVariants.{ManyShared}
 
 pub only-shared-image : (bs : List ℕ) → Only NotRule (shared_image_judgement bs)
 unfolding shared_image_judgement
 only-shared-image bs =
     only-otherwise NotRule _ _ (only-image bs)
-    (only-unless NotRule (leb (length (shared_gates (image_net bs))) most_shared) 23 0 (omega arith, omega arith))
+    (only-unless NotRule (leb (length (shared_gates (image_net bs))) most_shared) ManyShared 0 (omega arith, omega arith))

@@ -8,7 +8,7 @@ ghost use Rattle.area.specs.Rules.{Workable};
 ghost use Rattle.sets.specs.Sets.{units_net, shared_units};
 ghost use Rattle.shared.specs.Shared.{many_shared, shared_image_judgement, image_shared, shared_read};
 
-use refusal::Judgement;
+use refusal::{Cause, Refusal};
 
 // The most shared live gates: 256 sets of suppositions.
 const MOST_SHARED: usize = 8;
@@ -36,7 +36,7 @@ fn read_words(words: &mut [u32]) -> SharedRead
     let mut readers = live::count_readers(words);
     let shared = sets::shared_gates(&readers, area::inputs(words), area::gates(words));
     if shared > MOST_SHARED {
-        return SharedRead::Refused(refusal::MANY_SHARED, 0);
+        return Err(Refusal { cause: Cause::ManyShared, place: 0 });
     }
     SharedRead::Done(sets::shared_reliability(words, &mut readers, shared))
 }
@@ -47,7 +47,7 @@ pub fn shared_reliability(image: &[u8], pattern: u32) -> SharedRead
 {
     let mut words = [0u32; area::MOST_WORDS];
     match image::load(image, &mut words) {
-        Judgement::Fine => {
+        Ok(()) => {
             let low = low_bits(pattern, area::inputs(&words));
             words[area::PATTERN] = low;
             read_words(&mut words)

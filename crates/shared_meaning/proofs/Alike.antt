@@ -41,7 +41,7 @@ use Rattle.shared.specs.Shared.{many_shared, shared_image_judgement, image_share
 use Rattle.shared_meaning.specs.Statements.{nine_at_first, OpensAlike}
 use Rattle.shared_meaning.proofs.Nine.{shared-as-in-nine}
 use Rattle.shared_meaning.proofs.Within.{image-well}
-use Rattle.refusal.specs.declared.Cause.TheVariants.{ManyShared}
+use Rattle.refusal.specs.declared.Cause.TheVariants.{SharedGate, ManyShared}
 
 -- ---- where 9 does not apply none is shared
 
@@ -50,7 +50,7 @@ none_of net fine = go (shared_gates net) (sym (shared-as-in-nine net) ∙ fine)
   where
     go : (ss : List ℕ) → nine_at_first net.inputs ss ≡ Fine → ss ≡ []
     go [] e = refl
-    go (s ∷ ss) e = refused-not-fine 9 (s - net.inputs) e
+    go (s ∷ ss) e = refused-not-fine SharedGate (s - net.inputs) e
 
 -- ---- patterns with the same low bits
 

@@ -10,7 +10,7 @@ ghost use Rattle.records.specs.Bytes.{contents_record, gates_bytes, outputs_byte
 ghost use Rattle.calls.specs.Judgements.{write_image, judgement};
 ghost use Rattle.written.specs.Image.{area_contents, area_image_length, area_image_over};
 
-use refusal::Judgement;
+use refusal::{Cause, Refusal};
 
 // The record of a gate.
 fn write_gate(area: &[u32], gate: usize, image: &mut [u8])
@@ -91,16 +91,12 @@ pub fn write_image(area: &[u32], image: &mut [u8])
 }
 
 // Refusals 13 and 14 of the area, then 21: a slice shorter than the image.
-pub fn judge_write(area: &[u32], room: usize) -> Judgement
+pub fn judge_write(area: &[u32], room: usize) -> Result<(), Refusal>
     ensures { result ≡ judgement area.now (write_image room) }
 {
-    match rules::judge(area) {
-        Judgement::Fine => {
-            if room < image_length(area) {
-                return Judgement::Refused(refusal::WRITTEN_SLICE, 0);
-            }
-            Judgement::Fine
-        }
-        Judgement::Refused(number, place) => Judgement::Refused(number, place),
+    rules::judge(area)?;
+    if room < image_length(area) {
+        return Err(Refusal { cause: Cause::WrittenSlice, place: 0 });
     }
+    Ok(())
 }

@@ -25,6 +25,7 @@ use Rattle.bench.specs.declared.FlipSet.TheVariants.{Refused as SetRefused}
 use Rattle.bench.specs.Answers.{flip_set}
 use Rattle.bench.proofs.set_known_flip.Goals.{After-index-in-Units, After-set_units, Start}
 use Rattle.bench.proofs.set_known_flip.Goals as goal
+use Rattle.refusal.specs.declared.Cause.TheVariants.{CallFlip, ChanceAboveHalf}
 
 -- the area keeps rule 14, and the gate is there
 module _ (ws : List ℕ) (g : ℕ) (known : lent_judgement ws (read_gate g) ≡ Fine) where
@@ -49,10 +50,10 @@ module _ (c : After-index-in-Units) where
   abbrev units : ℕ
   units = c.in-Units.units
 
-  accepted : (flip_refusal 11 g c.args.kind c.args.field ≡ Fine)
+  accepted : (flip_refusal CallFlip g c.args.kind c.args.field ≡ Fine)
       × (flip_units c.args.kind c.args.field ≡ units) × (units ≤ largest_flip)
   accepted =
-      flip-read 11 g c.args.kind c.args.field units
+      flip-read CallFlip g c.args.kind c.args.field units
       (sym c.read_units.ensures
       ∙ c.in-Units.is)
 
@@ -124,7 +125,7 @@ returns-in-Units c =
 -- a flip that is refused leaves every word
 left_alone : (s : Start) (number : ℕ) →
     let a = s.args in
-    flip_refusal 11 a.gate a.kind a.field ≡ refused number a.gate
+    flip_refusal CallFlip a.gate a.kind a.field ≡ refused number a.gate
     → (SetRefused number a.gate ≡ flip_set (flip_judgement a.gate a.kind a.field))
     × (a.area.now ≡ left a.area.now (set_flip a.gate a.kind a.field))
 left_alone s number u =
@@ -137,8 +138,8 @@ left_alone s number u =
 
 pub returns-in-AboveHalf : goal.returns-in-AboveHalf
 returns-in-AboveHalf c =
-    let a = c.args in let all = left_alone (goal.at.returns-in-AboveHalf c).Start 22 (flip-above 11 a.gate a.kind a.field (sym c.read_units.ensures ∙ c.in-AboveHalf.is)) in record { value = all.0; area_after = all.1 }
+    let a = c.args in let all = left_alone (goal.at.returns-in-AboveHalf c).Start ChanceAboveHalf (flip-above CallFlip a.gate a.kind a.field (sym c.read_units.ensures ∙ c.in-AboveHalf.is)) in record { value = all.0; area_after = all.1 }
 
 pub returns-in-Refused : goal.returns-in-Refused
 returns-in-Refused c =
-    let a = c.args in let all = left_alone (goal.at.returns-in-Refused c).Start 11 (flip-bad 11 a.gate a.kind a.field (sym c.read_units.ensures ∙ c.in-Refused.is)) in record { value = all.0; area_after = all.1 }
+    let a = c.args in let all = left_alone (goal.at.returns-in-Refused c).Start CallFlip (flip-bad CallFlip a.gate a.kind a.field (sym c.read_units.ensures ∙ c.in-Refused.is)) in record { value = all.0; area_after = all.1 }

@@ -5,11 +5,11 @@ use mathlib.Core.Path.{◌≡◌, refl, sym, ap, ◌∙◌}
 use mathlib.Core.List.{List}
 use lib.Dec.{eqb}
 use Rattle.chance.specs.declared.Flip.TheVariants.{Never}
-use Rattle.chance.specs.declared.FlipRead.TheVariants.{Refused}
+use Rattle.std.specs.Prelude.{None}
 use Rattle.chance.specs.Flip.{second_half, plain_of, strike_of, in_range, flip_of, flip_accepted, read_if, read_flip}
 use Rattle.chance.proofs.read_flip.Goals as goal
 
-no_kind : (kind : ℕ) (field : List ℕ) → (kind ≡ 0 → ⊥) → (kind ≡ 1 → ⊥) → (kind ≡ 2 → ⊥) → Refused ≡ read_flip kind field
+no_kind : (kind : ℕ) (field : List ℕ) → (kind ≡ 0 → ⊥) → (kind ≡ 1 → ⊥) → (kind ≡ 2 → ⊥) → None ≡ read_flip kind field
 unfolding read_flip flip_accepted
 no_kind zero field a b c = absurd (a refl)
 no_kind (suc zero) field a b c = absurd (b refl)

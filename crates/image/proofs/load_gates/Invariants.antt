@@ -1,4 +1,3 @@
-use Prim.Native.Nat.{◌-◌, ◌≤◌}
 use Rattle.area.specs.Layout.{head_words}
 use Rattle.image.specs.Refusals.{gate_refusal}
 use Rattle.image.specs.Loading.{record_words}
@@ -6,9 +5,4 @@ use Rattle.image.proofs.Passed.{Passed}
 use Rattle.image.proofs.load_gates.Given as goal
 
 abbrev pub invariant-loop-j : goal.invariant-loop-j
-invariant-loop-j l =
-    (l.j ≤ l.gates) × Passed (gate_refusal l.middle l.inputs) (record_words l.middle) head_words l.initial.words l.j l.words
-
-abbrev pub decreases-loop-j : goal.decreases-loop-j
-decreases-loop-j l =
-    l.gates - l.j
+invariant-loop-j l = Passed (gate_refusal l.middle l.inputs) (record_words l.middle) head_words l.initial.words l.j l.words

@@ -8,12 +8,13 @@ use Rattle.refusal.proofs.Laws.{refused-not-fine}
 use Rattle.image.specs.Image.{output_at}
 use Rattle.image.specs.Refusals.{output_refusal}
 use Rattle.image.proofs.load_output.Goals as goal
+use Rattle.refusal.specs.declared.Cause.TheVariants.{OutputSource}
 
 pub returns-then-index-inputs : goal.returns-then-index-inputs
 unfolding output_refusal
 returns-then-index-inputs c =
     let a = c.args in
-    let far : a.inputs + a.gates ≤ output_at a.middle.now a.gates a.k = omega arith in record { value = simp (le-ltb _ _ far); words_after = λ e. refused-not-fine 8 a.k e }
+    let far : a.inputs + a.gates ≤ output_at a.middle.now a.gates a.k = omega arith in record { value = simp (le-ltb _ _ far); words_after = λ e. refused-not-fine OutputSource a.k e }
 
 pub returns : goal.returns
 unfolding output_refusal

@@ -1,4 +1,3 @@
-use Prim.Native.Nat.{◌-◌, ◌≤◌}
 use Rattle.area.specs.Layout.{outputs_index}
 use Rattle.image.specs.Refusals.{output_refusal}
 use Rattle.image.specs.Loading.{output_word}
@@ -7,8 +6,4 @@ use Rattle.image.proofs.load_outputs.Given as goal
 
 abbrev pub invariant-loop-k : goal.invariant-loop-k
 invariant-loop-k l =
-    (l.k ≤ l.outputs) × Passed (output_refusal l.middle l.inputs l.gates) (output_word l.middle l.gates) (outputs_index l.gates) l.initial.words l.k l.words
-
-abbrev pub decreases-loop-k : goal.decreases-loop-k
-decreases-loop-k l =
-    l.outputs - l.k
+    Passed (output_refusal l.middle l.inputs l.gates) (output_word l.middle l.gates) (outputs_index l.gates) l.initial.words l.k l.words
