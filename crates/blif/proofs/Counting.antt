@@ -32,9 +32,9 @@ earlier-fine Fine w e = (refl, e)
 earlier-fine (Err why) Fine e = refused-not-fine why.cause why.place e
 earlier-fine (Err why) (Err why2) e = go (leb why.place why2.place) refl
   where
-    go : (q : Bool) → leb x y ≡ q → (refused a x ≡ Fine) × (refused b y ≡ Fine)
-    go true p = refused-not-fine a x (rw p at e)
-    go false p = refused-not-fine b y (rw p at e)
+    go : (q : Bool) → leb why.place why2.place ≡ q → (◌≡◌ {A = Judgement} (Err why) Fine) × (◌≡◌ {A = Judgement} (Err why2) Fine)
+    go true p = refused-not-fine why.cause why.place (rw p at e)
+    go false p = refused-not-fine why2.cause why2.place (rw p at e)
 
 -- counts that are not refused
 pub within : (ls : List Line) → count_fault ls ≡ Fine → Within ls

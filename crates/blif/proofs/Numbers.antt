@@ -30,7 +30,7 @@ only-earlier Fine w f g = g
 only-earlier (Err why) Fine f g = f
 only-earlier (Err why) (Err why2) f g = go (leb why.place why2.place)
   where
-    go : (q : Bool) → Only Positive (cond q (refused a x) (refused b y))
+    go : (q : Bool) → Only Positive (cond {A = Judgement} q (Err why) (Err why2))
     go true = f
     go false = g
 
