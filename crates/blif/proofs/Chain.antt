@@ -3,22 +3,22 @@ use Prim.Native.Nat.{ℕ}
 use mathlib.Core.Path.{◌≡◌, refl}
 use mathlib.Core.List.{List}
 use Rattle.refusal.specs.Judgement.{Judgement}
-use Rattle.refusal.specs.Judgement.{Fine, refused}
-use Rattle.refusal.specs.Judgement.{otherwise, unless_refused}
-use Rattle.blif.specs.declared.BlifRead.{BlifRead}
-use Rattle.blif.specs.declared.BlifRead.TheVariants.{Refused as ReadRefused}
-use Rattle.blif.specs.Answer.{blif_read}
-use Rattle.refusal.specs.declared.Cause.{Cause}
-use Rattle.std.specs.Prelude.{Err}
+use Rattle.refusal.specs.Judgement.{Fine, otherwise, unless_refused, answer}
+use Rattle.refusal.specs.declared.Refusal.{Refusal}
+use Rattle.std.specs.Prelude.{Result, Err}
+use Rattle.std.specs.Result.{IsErrAnd}
+use Rattle.std.proofs.lemmas.Result.{err_from_is_err_and}
 
 -- an answer and a slice as a judgement says
-abbrev pub As : Judgement → ℕ → List ℕ → List ℕ → BlifRead → List ℕ → Type 0
-As v k new old r now = (r ≡ blif_read v k) × (now ≡ unless_refused v new old)
+abbrev pub As : Judgement → ℕ → List ℕ → List ℕ → Result ℕ Refusal → List ℕ → Type 0
+As v k new old r now = (r ≡ answer v k) × (now ≡ unless_refused v new old)
 
-pub stops : (v w : Judgement) (k : ℕ) (a : Cause) (p : ℕ) (new old : List ℕ) → v ≡ refused a p → As (otherwise v w) k new old (ReadRefused a p) old
-stops v w k a p new old e = rw e (refl, refl)
+-- the exit of a `?`
+pub stops : (v w : Judgement) (k : ℕ) (why : Refusal) (new old : List ℕ) (r : Result ℕ Refusal) → v ≡ Err why → IsErrAnd r (λ y. y ≡ why)
+    → As (otherwise v w) k new old r old
+stops v w k why new old r e h = let p = err_from_is_err_and r h in rw (e, p.1, p.2) (refl, refl)
 
-pub goes_on : (v w : Judgement) (k : ℕ) (new old now : List ℕ) (r : BlifRead) → v ≡ Fine → As w k new old r now → As (otherwise v w) k new old r now
+pub goes_on : (v w : Judgement) (k : ℕ) (new old now : List ℕ) (r : Result ℕ Refusal) → v ≡ Fine → As w k new old r now → As (otherwise v w) k new old r now
 goes_on v w k new old now r e h = rw e h
 
 -- tests grouped otherwise

@@ -32,9 +32,9 @@ earlier-fine Fine w e = (refl, e)
 earlier-fine (Err why) Fine e = refused-not-fine why.cause why.place e
 earlier-fine (Err why) (Err why2) e = go (leb why.place why2.place) refl
   where
-    go : (q : Bool) → leb x y ≡ q → (refused a x ≡ Fine) × (refused b y ≡ Fine)
-    go true p = refused-not-fine a x (rw p at e)
-    go false p = refused-not-fine b y (rw p at e)
+    go : (q : Bool) → leb why.place why2.place ≡ q → (◌≡◌ {A = Judgement} (Err why) Fine) × (◌≡◌ {A = Judgement} (Err why2) Fine)
+    go true p = refused-not-fine why.cause why.place (rw p at e)
+    go false p = refused-not-fine why2.cause why2.place (rw p at e)
 
 -- counts that are not refused
 pub within : (ls : List Line) → count_fault ls ≡ Fine → Within ls
@@ -44,9 +44,9 @@ within ls e =
     let two = earlier-fine _ _ one.1 in
     let three = earlier-fine _ _ two.1 in
     record {
-      few_inputs = leb-true _ _ (unless-fine _ 19 _ one.0);
-      few_gates = rw (← gates-listed ls) (leb-true _ _ (unless-fine _ 19 _ three.0));
-      few_outputs = leb-true _ _ (unless-fine _ 19 _ two.0);
+      few_inputs = leb-true _ _ (unless-fine _ TextModel _ one.0);
+      few_gates = rw (← gates-listed ls) (leb-true _ _ (unless-fine _ TextModel _ three.0));
+      few_outputs = leb-true _ _ (unless-fine _ TextModel _ two.0);
     }
 
 pub some-there : (ls : List Line) → count_fault ls ≡ Fine → 1 ≤ output_count ls
@@ -55,7 +55,7 @@ some-there ls e =
     let one = earlier-fine (over_fault (listed inputs_key ls) most_inputs) (earlier (over_fault (listed outputs_key ls) most_outputs) (earlier (over_fault (listed gates_key ls) most_gates) (some_fault ls))) e in
     let two = earlier-fine (over_fault (listed outputs_key ls) most_outputs) (earlier (over_fault (listed gates_key ls) most_gates) (some_fault ls)) one.1 in
     let three = earlier-fine (over_fault (listed gates_key ls) most_gates) (some_fault ls) two.1 in
-    leb-true 1 (length (listed outputs_key ls)) (unless-fine (leb 1 (length (listed outputs_key ls))) 19 (last_line ls).number three.1)
+    leb-true 1 (length (listed outputs_key ls)) (unless-fine (leb 1 (length (listed outputs_key ls))) TextModel (last_line ls).number three.1)
 
 -- the last line is that of the last word
 last-joined : (w : Word) (l : Line) (ls : List Line) → (last_line (joined w (l ∷ ls))).number ≡ (last_line (l ∷ ls)).number
@@ -96,7 +96,7 @@ last_line-number t s l n h =
 -- without an output, and with one
 pub no_output : (ls : List Line) → over_fault (listed outputs_key ls) 0 ≡ Fine → some_fault ls ≡ refused TextModel (last_line ls).number
 no_output ls e =
-    let none : length (listed outputs_key ls) ≤ 0 = leb-true _ _ (unless-fine _ 19 _ e) in
+    let none : length (listed outputs_key ls) ≤ 0 = leb-true _ _ (unless-fine _ TextModel _ e) in
     rw (lt-leb 1 (length (listed outputs_key ls)) (omega arith))
 
 pub some_output : (ls : List Line) (a : Cause) (x : ℕ) → over_fault (listed outputs_key ls) 0 ≡ refused a x → some_fault ls ≡ Fine

@@ -5,27 +5,20 @@ use mathlib.Core.Bool.{Bool, true, false}
 use mathlib.Core.List.{List, [], ◌∷◌}
 use native.Mathlib.Omega.{arith}
 use lib.ListN.{length, get_or}
-use lib.Dec.{eqb, leb}
-use borrow.Author.Tests.{leb-true, eqb-true}
+use lib.Dec.{leb}
+use borrow.Author.Tests.{leb-true}
 use Rattle.refusal.specs.Judgement.{Fine}
 use Rattle.refusal.proofs.Laws.{refused-not-fine}
 use Rattle.area.specs.Layout.{most_pins}
 use Rattle.statements.specs.declared.Phase.{Phase}
 use Rattle.statements.specs.declared.Phase.TheVariants.{Before, Heading, Cover, Ended, Misfit}
-use Rattle.statements.specs.declared.Keyword.{Keyword}
-use Rattle.statements.specs.declared.Keyword.TheVariants.{Model, Inputs, Outputs, Names, End, Other}
+use Rattle.statements.specs.declared.Keyword.TheVariants.{Names}
 use Rattle.statements.specs.Lines.{Line}
-use Rattle.statements.specs.Fit.{keyword_of, after_gate, fit_as, fit, is_misfit, fault}
-use Rattle.model.specs.Model.{key_number, key_of, gates_key, gates_of, no_gate}
+use Rattle.statements.specs.Fit.{after_gate, fit_as, fit, is_misfit, fault}
+use Rattle.model.specs.Model.{same_key, key_of, gates_key, gates_of, no_gate}
+use Rattle.model.proofs.Keys.{keys-same}
 use Rattle.blif.specs.Stages.{Fitting}
-
-pub key-names : (k : Keyword) → key_number k ≡ gates_key → k ≡ Names
-key-names Model e = absurd (omega arith)
-key-names Inputs e = absurd (omega arith)
-key-names Outputs e = absurd (omega arith)
-key-names Names e = refl
-key-names End e = absurd (omega arith)
-key-names Other e = absurd (omega arith)
+use Rattle.refusal.specs.declared.Cause.TheVariants.{TextLine}
 
 -- a `.names` line that fits
 abbrev Right : List (List ℕ) → Type 0
@@ -48,18 +41,18 @@ names-fit Ended w ws e = absurd (let y : ◌≡◌ {A = ℕ} 0 1 = cc in omega a
 names-fit Misfit w ws e = absurd (let y : ◌≡◌ {A = ℕ} 0 1 = cc in omega arith)
 
 line-fits : (p : Phase) (ws : List (List ℕ)) → is_misfit (fit p ws) ≡ false → key_of ws ≡ gates_key → Right ws
-line-fits p [] e k = absurd (omega arith)
-line-fits p (w ∷ ws) e k = names-fit p w ws (rw (key-names (keyword_of w) k) at e)
+line-fits p [] e k = absurd (let y : ◌≡◌ {A = ℕ} 0 1 = cc in omega arith)
+line-fits p (w ∷ ws) e k = names-fit p w ws (rw k at e)
 
 all_fit : (p : Phase) (ls : List Line) (last : ℕ) → fault p ls last ≡ Fine → (j : ℕ) → j < length (gates_of ls) → Right (get_or (gates_of ls) j no_gate).head.words
 all_fit p [] last e j h = absurd (omega arith)
-all_fit p (l ∷ ls) last e j h = go (is_misfit (fit p l.words)) refl (eqb (key_of l.words) gates_key) refl j h (all_fit (fit p l.words) ls last)
+all_fit p (l ∷ ls) last e j h = go (is_misfit (fit p l.words)) refl (same_key (key_of l.words) gates_key) refl j h (all_fit (fit p l.words) ls last)
   where
-    go : (b : Bool) → is_misfit (fit p l.words) ≡ b → (d : Bool) → eqb (key_of l.words) gates_key ≡ d → (j : ℕ) → j < length (gates_of (l ∷ ls))
+    go : (b : Bool) → is_misfit (fit p l.words) ≡ b → (d : Bool) → same_key (key_of l.words) gates_key ≡ d → (j : ℕ) → j < length (gates_of (l ∷ ls))
         → (fault (fit p l.words) ls last ≡ Fine → (j : ℕ) → j < length (gates_of ls) → Right (get_or (gates_of ls) j no_gate).head.words)
         → Right (get_or (gates_of (l ∷ ls)) j no_gate).head.words
-    go true q d k j h ih = refused-not-fine 18 l.number (rw q at e)
-    go false q true k zero h ih = rw k (line-fits p l.words q (eqb-true (key_of l.words) gates_key k))
+    go true q d k j h ih = refused-not-fine TextLine l.number (rw q at e)
+    go false q true k zero h ih = rw k (line-fits p l.words q (keys-same (key_of l.words) gates_key k))
     go false q true k (suc j) h ih = rw k (ih (rw q at e) j (less (rw k at h)))
       where
         less : suc j < suc (length (gates_of ls)) → j < length (gates_of ls)
@@ -70,4 +63,4 @@ pub fitting : (ls : List Line) (last : ℕ) → fault Before ls last ≡ Fine �
 fitting ls last e = record { some = λ j h. (all_fit Before ls last e j h).0; few = λ j h. (all_fit Before ls last e j h).1 }
 
 pub no_line : (last : ℕ) → fault Before [] last ≡ Fine → ⊥
-no_line last e = refused-not-fine 18 last e
+no_line last e = refused-not-fine TextLine last e

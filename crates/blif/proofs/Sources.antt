@@ -25,6 +25,7 @@ use Rattle.resolve.specs.Found.{Sources, Room, Clear}
 use Rattle.blif.specs.Reading.{gate_count}
 use Rattle.blif.specs.Resolved.{Resolved}
 use Rattle.blif.specs.Stages.{Named, OutputsKnown, sources_fault}
+use Rattle.refusal.specs.declared.Cause.TheVariants.{TextModel}
 
 pub cleared : Clear (replicate 4096 0) (replicate 1024 0)
 cleared = record { no_pin = zeros-at 4096; no_count = zeros-at 1024 }
@@ -43,7 +44,7 @@ mapped ds (u ∷ us) d f m =
 
 pub all_known : (ds us : List Word) → unknown_fault ds us ≡ Fine → (i : ℕ) → i < length us → number ds (get_or us i no_word).bytes < length ds
 unfolding unknown_fault
-all_known ds us e i h = ltb-true _ _ (unless-fine _ 19 (line_at us i) (lowest-fine (unknown_at ds us) (length us) i h e))
+all_known ds us e i h = ltb-true _ _ (unless-fine _ TextModel (line_at us i) (lowest-fine (unknown_at ds us) (length us) i h e))
 
 module _ {t s l : List ℕ} {n : ℕ} {names numbers : List ℕ} {many : ℕ} {heads : List ℕ} {inputs gates : ℕ}
     (d : Named t s l n names numbers many heads inputs gates) where

@@ -1,4 +1,3 @@
 pub mod Reading
 pub mod Resolved
 pub mod Stages
-pub mod Answer

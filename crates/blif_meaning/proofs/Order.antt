@@ -7,7 +7,6 @@ use native.Mathlib.Nat.{le_refl, le_trans}
 use native.Mathlib.Omega.{arith}
 use lib.ListN.{length, get_or}
 use lib.Dec.{eqb, leb}
-use borrow.Author.Tests.{eqb-true, ne_eqb}
 use Rattle.refusal.specs.Judgement.{Fine}
 use Rattle.area.specs.Layout.{most_pins}
 use Rattle.texts.specs.Words.{Word, step_from, step, begins, begun, word_of, words_from, words_of, line_feeds}
@@ -21,9 +20,9 @@ use Rattle.statements.specs.declared.Keyword.TheVariants.{Model, Inputs, Outputs
 use Rattle.statements.specs.declared.Phase.{Phase}
 use Rattle.statements.specs.declared.Phase.TheVariants.{Before, Heading, Cover, Ended, Misfit}
 use Rattle.statements.proofs.Ends.{never, later, fitted}
-use Rattle.model.specs.Model.{inputs_key, outputs_key, gates_key, key_number, key_of, after, word_in, listed, gates_of, no_gate}
+use Rattle.model.specs.Model.{inputs_key, outputs_key, gates_key, same_key, key_of, after, word_in, listed, gates_of, no_gate}
 use Rattle.model.specs.Counts.{line_at}
-use Rattle.blif.proofs.Fits.{key-names}
+use Rattle.model.proofs.Keys.{keys-same, other-keys}
 
 -- numbers that do not go back, from b on
 pub data Rising : ℕ → List ℕ → Type 0 where
@@ -145,33 +144,23 @@ names-past Ended w ws = refl
 names-past Misfit w ws = refl
 
 names-line : (p : Phase) (ws : List (List ℕ)) → key_of ws ≡ gates_key → past (fit p ws) ≡ true
-names-line p [] e = absurd (omega arith)
-names-line p (w ∷ ws) e = rw (key-names (keyword_of w) e) (names-past p w ws)
+names-line p [] e = refl
+names-line p (w ∷ ws) e = rw e (names-past p w ws)
 
 -- a list that follows does not fit
-inputs-misfit : (k : Keyword) → key_number k ≡ inputs_key → (w : List ℕ) (ws : List (List ℕ)) (p : Phase) → past p ≡ true → is_misfit (fit_as p k w ws) ≡ true
-inputs-misfit Model h w ws p e = absurd (omega arith)
-inputs-misfit Inputs h w ws Before e = never true refl (sym e)
-inputs-misfit Inputs h w ws Heading e = never true refl (sym e)
-inputs-misfit Inputs h w ws (Cover width ending) e = refl
-inputs-misfit Inputs h w ws Ended e = refl
-inputs-misfit Inputs h w ws Misfit e = refl
-inputs-misfit Outputs h w ws p e = absurd (omega arith)
-inputs-misfit Names h w ws p e = absurd (omega arith)
-inputs-misfit End h w ws p e = absurd (omega arith)
-inputs-misfit Other h w ws p e = absurd (omega arith)
+inputs-misfit : (w : List ℕ) (ws : List (List ℕ)) (p : Phase) → past p ≡ true → is_misfit (fit_as p Inputs w ws) ≡ true
+inputs-misfit w ws Before e = never true refl (sym e)
+inputs-misfit w ws Heading e = never true refl (sym e)
+inputs-misfit w ws (Cover width ending) e = refl
+inputs-misfit w ws Ended e = refl
+inputs-misfit w ws Misfit e = refl
 
-outputs-misfit : (k : Keyword) → key_number k ≡ outputs_key → (w : List ℕ) (ws : List (List ℕ)) (p : Phase) → past p ≡ true → is_misfit (fit_as p k w ws) ≡ true
-outputs-misfit Model h w ws p e = absurd (omega arith)
-outputs-misfit Inputs h w ws p e = absurd (omega arith)
-outputs-misfit Outputs h w ws Before e = never true refl (sym e)
-outputs-misfit Outputs h w ws Heading e = never true refl (sym e)
-outputs-misfit Outputs h w ws (Cover width ending) e = refl
-outputs-misfit Outputs h w ws Ended e = refl
-outputs-misfit Outputs h w ws Misfit e = refl
-outputs-misfit Names h w ws p e = absurd (omega arith)
-outputs-misfit End h w ws p e = absurd (omega arith)
-outputs-misfit Other h w ws p e = absurd (omega arith)
+outputs-misfit : (w : List ℕ) (ws : List (List ℕ)) (p : Phase) → past p ≡ true → is_misfit (fit_as p Outputs w ws) ≡ true
+outputs-misfit w ws Before e = never true refl (sym e)
+outputs-misfit w ws Heading e = never true refl (sym e)
+outputs-misfit w ws (Cover width ending) e = refl
+outputs-misfit w ws Ended e = refl
+outputs-misfit w ws Misfit e = refl
 
 -- the names of a line
 names-rising : (x : ℕ) (ns : List (List ℕ)) (ws : List Word) {b : ℕ} → b ≤ x → Rising x (word_lines ws) → Rising b (word_lines (map (word_in x) ns ++ ws))
@@ -183,7 +172,7 @@ same_line x [] = none
 same_line x (n ∷ ns) = more (le_refl x) (same_line x ns)
 
 -- lists of a keyword that may stand before gates only
-module _ (key : ℕ) (heading : (k : Keyword) → key_number k ≡ key → (w : List ℕ) (ws : List (List ℕ)) (p : Phase) → past p ≡ true → is_misfit (fit_as p k w ws) ≡ true)
+module _ (key : Keyword) (heading : (w : List ℕ) (ws : List (List ℕ)) (p : Phase) → past p ≡ true → is_misfit (fit_as p key w ws) ≡ true)
     (no-gate : key ≡ gates_key → ⊥) where
   none-past : (p : Phase) (ls : List Line) (last : ℕ) → past p ≡ true → fault p ls last ≡ Fine → listed key ls ≡ []
   none-past p [] last e f = refl
@@ -192,23 +181,23 @@ module _ (key : ℕ) (heading : (k : Keyword) → key_number k ≡ key → (w : 
       go : (ws : List (List ℕ)) → l.words ≡ ws → is_misfit (fit p l.words) ≡ false → (past (fit p l.words) ≡ true → listed key ls ≡ []) → listed key (l ∷ ls) ≡ []
       go [] s fits ih = never true refl (rw s at fits)
       go (w ∷ ws) s fits ih =
-          let other : key_of l.words ≡ key → ⊥ = λ k. never _ (heading (keyword_of w) (rw s at k) w ws p e) (rw s at fits) in
-          rw (ne_eqb (key_of l.words) key other) (ih (rw s (stays-past p (keyword_of w) w ws e)))
+          let other : key_of l.words ≡ key → ⊥ = λ k. never _ (rw (rw s at k) (heading w ws p e)) (rw s at fits) in
+          rw (other-keys (key_of l.words) key other) (ih (rw s (stays-past p (keyword_of w) w ws e)))
 
   pub order : (p : Phase) (ls : List Line) (last : ℕ) {b : ℕ} → Rising b (numbers ls) → fault p ls last ≡ Fine
       → Rising b (word_lines (listed key ls ++ listed gates_key ls))
   order p [] last r f = none
   order p (l ∷ ls) last {b} (more h r) f =
-      go (eqb (key_of l.words) key) refl (eqb (key_of l.words) gates_key) refl (order (fit p l.words) ls last r (later p l ls last f))
+      go (same_key (key_of l.words) key) refl (same_key (key_of l.words) gates_key) refl (order (fit p l.words) ls last r (later p l ls last f))
     where
-      go : (d : Bool) → eqb (key_of l.words) key ≡ d → (g : Bool) → eqb (key_of l.words) gates_key ≡ g
+      go : (d : Bool) → same_key (key_of l.words) key ≡ d → (g : Bool) → same_key (key_of l.words) gates_key ≡ g
           → Rising l.number (word_lines (listed key ls ++ listed gates_key ls)) → Rising b (word_lines (listed key (l ∷ ls) ++ listed gates_key (l ∷ ls)))
-      go true e true g ih = absurd (no-gate (sym (eqb-true (key_of l.words) key e) ∙ eqb-true (key_of l.words) gates_key g))
+      go true e true g ih = absurd (no-gate (sym (keys-same (key_of l.words) key e) ∙ keys-same (key_of l.words) gates_key g))
       go true e false g ih =
-          rw (e, g, ne_eqb key gates_key no-gate, append_assoc (map (word_in l.number) (after l.words)) (listed key ls) (listed gates_key ls))
+          rw (e, g, other-keys key gates_key no-gate, append_assoc (map (word_in l.number) (after l.words)) (listed key ls) (listed gates_key ls))
           (names-rising l.number (after l.words) (listed key ls ++ listed gates_key ls) h ih)
       go false e true g ih =
-          let nothing = none-past (fit p l.words) ls last (names-line p l.words (eqb-true (key_of l.words) gates_key g)) (later p l ls last f) in
+          let nothing = none-past (fit p l.words) ls last (names-line p l.words (keys-same (key_of l.words) gates_key g)) (later p l ls last f) in
           rw (e, g, nothing) (more h (rw nothing at ih))
       go false e false g ih = rw (e, g) (lower h ih)
 
@@ -219,9 +208,9 @@ front-rising (w ∷ ws) us (more h r) = more h (front-rising ws us r)
 -- a gate's own name stands in its line
 pub gate-line : (ls : List Line) (j : ℕ) → j < length (gates_of ls) → line_at (listed gates_key ls) j ≡ (get_or (gates_of ls) j no_gate).head.number
 gate-line [] j h = absurd (omega arith)
-gate-line (l ∷ ls) j h = go (eqb (key_of l.words) gates_key) refl j h (gate-line ls)
+gate-line (l ∷ ls) j h = go (same_key (key_of l.words) gates_key) refl j h (gate-line ls)
   where
-    go : (g : Bool) → eqb (key_of l.words) gates_key ≡ g → (j : ℕ) → j < length (gates_of (l ∷ ls))
+    go : (g : Bool) → same_key (key_of l.words) gates_key ≡ g → (j : ℕ) → j < length (gates_of (l ∷ ls))
         → ((j : ℕ) → j < length (gates_of ls) → line_at (listed gates_key ls) j ≡ (get_or (gates_of ls) j no_gate).head.number)
         → line_at (listed gates_key (l ∷ ls)) j ≡ (get_or (gates_of (l ∷ ls)) j no_gate).head.number
     go true g zero h ih = rw g
@@ -236,7 +225,7 @@ module _ (text : List ℕ) (f : fault Before (lines_of (words_of text)) (1 + lin
   ls = lines_of (words_of text)
 
   pub inputs-first : Rising 1 (word_lines (listed inputs_key (lines_of (words_of text)) ++ listed gates_key (lines_of (words_of text))))
-  inputs-first = order inputs_key inputs-misfit (λ e. omega arith) Before (lines_of (words_of text)) (1 + line_feeds text) (text-rising text) f
+  inputs-first = order inputs_key inputs-misfit (λ e. cc) Before (lines_of (words_of text)) (1 + line_feeds text) (text-rising text) f
 
   pub outputs-first : Rising 1 (word_lines (listed outputs_key (lines_of (words_of text)) ++ listed gates_key (lines_of (words_of text))))
-  outputs-first = order outputs_key outputs-misfit (λ e. omega arith) Before (lines_of (words_of text)) (1 + line_feeds text) (text-rising text) f
+  outputs-first = order outputs_key outputs-misfit (λ e. cc) Before (lines_of (words_of text)) (1 + line_feeds text) (text-rising text) f

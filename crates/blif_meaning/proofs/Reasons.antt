@@ -11,7 +11,7 @@ use lib.Seq.{get_or-append-add}
 use lib.Dec.{eqb, ltb, leb}
 use borrow.Author.Tests.{eqb-false, ne_eqb, ltb-true, ltb-false, leb-true, leb-false, lt-leb}
 use Rattle.refusal.specs.Judgement.{Judgement}
-use Rattle.refusal.specs.Judgement.{Fine, refused}
+use Rattle.refusal.specs.Judgement.{Fine}
 use Rattle.refusal.specs.Judgement.{refuse_unless, otherwise, lowest}
 use Rattle.area.specs.Layout.{most_inputs, most_gates, most_outputs}
 use Rattle.texts.specs.Words.{Word}
@@ -59,13 +59,13 @@ says-earlier Fine (Err why) P Q s t = (t.0, record { there = inr t.1.there; leas
 says-earlier (Err why) Fine P Q s t = (s.0, record { there = inl s.1.there; least = λ z c. ⊎_elim (s.1.least z) (λ q. absurd (t z q)) c })
 says-earlier (Err why) (Err why2) P Q s t = go (leb why.place why2.place) refl
   where
-    go : (l : Bool) → leb x y ≡ l → Says (earlier (refused a x) (refused b y)) (λ z. P z ⊎ Q z)
+    go : (l : Bool) → leb why.place why2.place ≡ l → Says (earlier (Err why) (Err why2)) (λ z. P z ⊎ Q z)
     go true e =
         rw e
-        (s.0, record { there = inl s.1.there; least = λ z c. ⊎_elim (s.1.least z) (λ q. omega (arith, leb-true x y e, t.1.least z q)) c })
+        (s.0, record { there = inl s.1.there; least = λ z c. ⊎_elim (s.1.least z) (λ q. omega (arith, leb-true why.place why2.place e, t.1.least z q)) c })
     go false e =
         rw e
-        (t.0, record { there = inr t.1.there; least = λ z c. ⊎_elim (λ p. omega (arith, leb-false x y e, s.1.least z p)) (t.1.least z) c })
+        (t.0, record { there = inr t.1.there; least = λ z c. ⊎_elim (λ p. omega (arith, leb-false why.place why2.place e, s.1.least z p)) (t.1.least z) c })
 
 -- tests in turn whose lines do not go back
 module _ (v : ℕ → Judgement) (P : ℕ → ℕ → Type 0) where

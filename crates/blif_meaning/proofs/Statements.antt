@@ -35,6 +35,7 @@ use Rattle.blif.proofs.Placing.{none-placed}
 use Rattle.blif.proofs.Sources.{mapped, all_known}
 use Rattle.blif_meaning.proofs.Run.{Ran, ran}
 use Rattle.blif_meaning.specs.Statements.{TableIsCover, Consistent, ValuesExist, ValuesRight, EarliestNext, SourcesFirst}
+use Rattle.refusal.specs.declared.Cause.TheVariants.{TextModel}
 
 pub table-is-cover : TableIsCover
 unfolding cover_table
@@ -92,7 +93,7 @@ module _ (ls : List Line) (named : names_fault ls ≡ Fine) where
   unfolding names_fault again_fault
   number-own d h =
       eqb-true _ d
-      (unless-fine _ 19 (line_at (defined ls) d)
+      (unless-fine _ TextModel (line_at (defined ls) d)
       (lowest-fine (again_at (defined ls)) (length (defined ls)) d h
       (otherwise-fine (again_fault (defined ls)) (otherwise (unknown_fault (defined ls) (listed outputs_key ls)) (sources_fault ls)) named).0))
 

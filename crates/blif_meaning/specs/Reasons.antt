@@ -2,7 +2,7 @@
 -- The tests' order is that of `model_fault`.
 use Rattle.std.specs.Prelude.{ℕ, ◌+◌, ◌<◌, ◌≤◌, ◌≡◌, List, length, get_or}
 use Rattle.refusal.specs.Judgement.{Judgement}
-use Rattle.refusal.specs.Judgement.{Fine, refused}
+use Rattle.refusal.specs.Judgement.{Fine}
 use Rattle.refusal.specs.Judgement.{otherwise}
 use Rattle.area.specs.Layout.{most_inputs, most_gates, most_outputs}
 use Rattle.texts.specs.Words.{Word, line_feeds}
@@ -15,6 +15,7 @@ use Rattle.model.specs.Counts.{line_at, count_fault}
 use Rattle.resolve.specs.Names.{again_fault, unknown_fault, names_fault, sources_in, source_numbers}
 use Rattle.blif.specs.Reading.{text_lines, input_count, gate_count, loops_fault}
 use Rattle.blif.specs.Stages.{sources_fault}
+use Rattle.refusal.specs.declared.Cause.TheVariants.{TextModel}
 use Rattle.std.specs.Prelude.{Err}
 
 -- it passes the count: it has one input, output or gate more than an image can hold; or it is the last line, `.end`, of a model without outputs
@@ -49,10 +50,10 @@ pub record Lowest (P : ℕ → Type 0) (x : ℕ) : Type 0 where
   pub there : P x
   pub least : (y : ℕ) → P y → x ≤ y
 
--- a test is fine where P holds of no line, and refuses with 19 at the lowest line that it holds of
+-- a test is fine where P holds of no line, and refuses the model (19) at the lowest line that it holds of
 abbrev pub Says : Judgement → (ℕ → Type 0) → Type 0
 Says Fine P = (x : ℕ) → P x → ⊥
-Says (Err why) P = (why.cause ≡ 19) × Lowest P why.place
+Says (Err why) P = (why.cause ≡ TextModel) × Lowest P why.place
 
 pub record AsSaid (ls : List Line) : Type 0 where
   pub counts : Says (count_fault ls) (PassesCount ls)

@@ -1,4 +1,5 @@
 -- The table made of a cover answers as the cover does, whatever the values. Assumes nothing.
+use Rattle.statements.specs.declared.Keyword.{Keyword}
 use Prim.Native.Nat.{ℕ, zero, suc, ◌+◌, ◌-◌, ◌*◌, ◌/◌, ◌^◌, ◌<◌}
 use mathlib.Core.Path.{◌≡◌, refl, ap, ap₂, sym, ◌∙◌}
 use mathlib.Core.Bool.{Bool, true, false, cond}
@@ -7,16 +8,15 @@ use native.Mathlib.Nat.{pow-succ', div-one, div-div-eq-div-mul, zero-add}
 use native.Mathlib.Omega.{arith}
 use native.Mathlib.Numerals.{add-one}
 use lib.Bits.{bit_or}
-use lib.Dec.{eqb}
 use lib.ListN.{length, get_or, drop}
-use borrow.Author.Tests.{eq-eqb, ne_eqb}
+use Rattle.model.proofs.Keys.{same-keys, other-keys}
 use Rattle.figure.specs.Figure.{bit_of, is_odd, index_of, answer}
 use Rattle.netlist.specs.Netlist.{input_values}
 use Rattle.texts.specs.Words.{word_of}
 use Rattle.statements.specs.Lines.{Line, line_of, bytes_from}
 use Rattle.statements.specs.Fit.{value_of}
 use Rattle.statements.proofs.Lines.{length-bytes, bytes-at}
-use Rattle.model.specs.Model.{key_of, cover_key, cover_of}
+use Rattle.model.specs.Model.{key_of, cover_key, cover_of, same_key}
 use Rattle.model.specs.Tables.{key_at, rest_at, lines_from}
 use Rattle.model.proofs.Runs.{parted}
 use Rattle.covers.specs.Cover.{meets, some_meets, ending_of, table_from, table_of}
@@ -68,15 +68,15 @@ module _ (t s l : List ℕ) (n k r : ℕ) (inside : k < n) (rest : r ≡ rest_at
   key-of = rw add-one refl
 
   split : cover_of (lines_from t s l n k)
-      ≡ cond (eqb (key_at t s k) cover_key) (line_of (get_or l k 0) (bytes_from t s k (r + 1)) ∷ cover_of (lines_from t s l n (k + (r + 1)))) []
-  split = ap cover_of (parted t s l n k r inside rest) ∙ ap (λ (x : ℕ). cond (eqb x cover_key) (line_of (get_or l k 0) (bytes_from t s k (r + 1)) ∷ cover_of (lines_from t s l n (k + (r + 1)))) []) key-of
+      ≡ cond (same_key (key_at t s k) cover_key) (line_of (get_or l k 0) (bytes_from t s k (r + 1)) ∷ cover_of (lines_from t s l n (k + (r + 1)))) []
+  split = ap cover_of (parted t s l n k r inside rest) ∙ ap (λ (x : Keyword). cond (same_key x cover_key) (line_of (get_or l k 0) (bytes_from t s k (r + 1)) ∷ cover_of (lines_from t s l n (k + (r + 1)))) []) key-of
 
   pub cover-over : (key_at t s k ≡ cover_key → ⊥) → cover_of (lines_from t s l n k) ≡ []
-  cover-over e = split ∙ rw (ne_eqb _ _ e)
+  cover-over e = split ∙ rw (other-keys _ _ e)
 
   pub cover_on : key_at t s k ≡ cover_key
       → cover_of (lines_from t s l n k) ≡ line_of (get_or l k 0) (bytes_from t s k (r + 1)) ∷ cover_of (lines_from t s l n (k + (r + 1)))
-  cover_on e = split ∙ rw (eq-eqb _ _ e)
+  cover_on e = split ∙ rw (same-keys _ _ e)
 
   rows_more : (width : ℕ) → key_at t s k ≡ cover_key
       → table_of width (some_meets (cover_of (lines_from t s l n k)))

@@ -10,6 +10,8 @@ ghost use Rattle.model.specs.Model.{cover_of};
 ghost use Rattle.model.specs.Tables.{lines_from};
 ghost use Rattle.covers.specs.Cover.{byte_meets, meets, some_meets, ending_of, table_of, cover_table};
 
+use statements::Keyword;
+
 // What a byte makes of the rows met by those before it: with a 0 at its source they stay where they are, with a 1 they stand `above` times as high.
 fn factor(b: u8, above: usize) -> usize
     requires { above < 65_536 }
@@ -61,7 +63,7 @@ fn cover_rows(
     let mut rows = 0;
     let mut k = from;
     while k < n {
-        if model::key_at(text, starts, k) != model::COVER {
+        if model::key_at(text, starts, k) != Keyword::Other {
             return rows;
         }
         rows |= line_rows(names::word(text, names::entry(starts, k)), width);
@@ -78,7 +80,7 @@ fn ending(text: &[u8], starts: &[u16], lines: &[u16], n: usize, from: usize) -> 
     if from == n {
         return 2;
     }
-    if model::key_at(text, starts, from) != model::COVER {
+    if model::key_at(text, starts, from) != Keyword::Other {
         return 2;
     }
     statements::value_at(text, starts, from + statements::line_rest(lines, from, n))

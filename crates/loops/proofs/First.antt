@@ -67,7 +67,7 @@ module _ (S : ℕ → List ℕ) (n g : ℕ) (known : (j i : ℕ) → j < g → R
     where
       free : (j : ℕ) → j < g → Depends S n j j → ⊥
       free j h d =
-          let no : not (via S n g j j) ≡ true = unless-fine _ 19 (line j) (lowest-fine (λ (j : ℕ). refuse_unless (not (via S n g j j)) TextModel (line j)) g j h fine) in
+          let no : not (via S n g j j) ≡ true = unless-fine _ TextModel (line j) (lowest-fine (λ (j : ℕ). refuse_unless (not (via S n g j j)) TextModel (line j)) g j h fine) in
           let yes_way : via S n g j j ≡ true = depends-via S n g known j j h d in
           let z : ◌≡◌ {A = Bool} false true = rw yes_way at no in
           let y : ◌≡◌ {A = ℕ} 0 1 = cc in
@@ -84,7 +84,7 @@ module _ (S : ℕ → List ℕ) (n g : ℕ) (known : (j i : ℕ) → j < g → R
       → refused TextModel x ≡ loop_fault S n g line
   unfolding loop_fault
   search-stops line j x h fine e q =
-      lowest-answer (λ (i : ℕ). refuse_unless (not (via S n g i i)) TextModel (line i)) g j 19 x h fine (rw (e, q))
+      lowest-answer (λ (i : ℕ). refuse_unless (not (via S n g i i)) TextModel (line i)) g j TextModel x h fine (rw (e, q))
 
   pub search-on : (line : ℕ → ℕ) (j : ℕ) → lowest (λ (i : ℕ). refuse_unless (not (via S n g i i)) TextModel (line i)) j ≡ Fine → via S n g j j ≡ false
       → lowest (λ (i : ℕ). refuse_unless (not (via S n g i i)) TextModel (line i)) (j + 1) ≡ Fine

@@ -3,11 +3,11 @@
 
 ghost use Rattle.std.specs.Prelude.{◌≡◌, [], ◌∷◌, ℕ, ◌+◌, ◌-◌, ◌*◌, ◌<◌, ◌≤◌, length, get_or};
 ghost use Rattle.area.specs.Layout.{most_pins, most_inputs, most_gates};
-ghost use Rattle.refusal.specs.declared.Judgement.TheVariants.{Fine};
+ghost use Rattle.refusal.specs.Judgement.{Fine};
 ghost use Rattle.placing.specs.Placing.{entries, sources_of, Tables, Reads, Kept, Placed, loop_fault};
 ghost use Rattle.loops.specs.Marks.{Room, Marked, Clear, Answers};
 
-use refusal::Judgement;
+use refusal::{Cause, Refusal};
 
 // Each gate is put on the pile once, and the one that the search begins with once more.
 const PILE: usize = area::MOST_GATES + 1;
@@ -119,7 +119,7 @@ fn first_loop(
     n: usize,
     gates: usize,
     numbers: &[u16],
-) -> Judgement
+) -> Result<(), Refusal>
     requires gates_le_most_gates { (gates ≤ most_gates) × (n + gates ≤ length numbers.now) × Tables n pins.now counts.now }
     requires by_index { (j i : ℕ) → j < gates → Reads (sources_of pins.now counts.now) n j i → i < gates }
     requires place_len { (length place.now ≡ most_gates) × Clear (sources_of pins.now counts.now) n place.now }
@@ -129,12 +129,15 @@ fn first_loop(
     let mut j = 0;
     while j < gates {
         if on_itself(&clear, pins, counts, n, gates, j) {
-            return Judgement::Refused(refusal::TEXT_MODEL, names::line(numbers, n + j));
+            return Err(Refusal {
+                cause: Cause::TextModel,
+                place: names::line(numbers, n + j),
+            });
         }
         clear[j] = 1;
         j += 1;
     }
-    Judgement::Fine
+    Ok(())
 }
 
 // Places the gates. Where some are left, one of them depends on itself.
@@ -146,7 +149,7 @@ pub fn order_gates(
     n: usize,
     gates: usize,
     numbers: &[u16],
-) -> Judgement
+) -> Result<(), Refusal>
     requires gates_le_most_gates { (gates ≤ most_gates) × (n + gates ≤ length numbers.now) × Tables n pins.now counts.now }
     requires by_index { (j i : ℕ) → j < gates → Reads (sources_of pins.now counts.now) n j i → i < gates }
     requires kept { Kept (sources_of pins.now counts.now) n gates 0 place.old order.old }
@@ -156,7 +159,7 @@ pub fn order_gates(
 {
     let placed = placing::place_all(place, order, pins, counts, n, gates);
     if placed == gates {
-        return Judgement::Fine;
+        return Ok(());
     }
     first_loop(place, pins, counts, n, gates, numbers)
 }

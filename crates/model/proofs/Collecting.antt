@@ -1,4 +1,5 @@
 -- Names of lines put into tables, run by run. Assumes nothing.
+use Rattle.statements.specs.declared.Keyword.{Keyword}
 use Prim.Native.Nat.{ℕ, zero, suc, ◌+◌, ◌-◌, ◌<◌, ◌≤◌}
 use mathlib.Core.Path.{◌≡◌, refl, ap, ap₂, sym, subst, ◌∙◌}
 use mathlib.Core.List.{List, [], ◌++◌, append-nil, append_assoc}
@@ -80,17 +81,17 @@ module _ (t s l nm nl : List ℕ) (start many count : ℕ) (src : start + many �
           subst (λ (x : ℕ). get_or (sets nm count (run s)) x 0 < length t) sum (rw (put s nm src room (k - count) own) (places (k - count) own))
 
 -- what is known while the lines from word k on are still to come
-pub record Collecting (t s l : List ℕ) (n wanted : ℕ) (nm₀ nl₀ : List ℕ) (from : ℕ) (nm nl : List ℕ) (count k : ℕ) : Type 0 where
+pub record Collecting (t s l : List ℕ) (n : ℕ) (wanted : Keyword) (nm₀ nl₀ : List ℕ) (from : ℕ) (nm nl : List ℕ) (count k : ℕ) : Type 0 where
   pub words : held t nm nl 0 count ++ listed wanted (lines_from t s l n k) ≡ held t nm₀ nl₀ 0 from ++ listed wanted (lines_from t s l n 0)
   pub counted : count + length (listed wanted (lines_from t s l n k)) ≡ from + length (listed wanted (lines_from t s l n 0))
   pub long : length nm ≡ length nm₀
   pub wide : length nl ≡ length nl₀
   pub inside : ((i : ℕ) → i < from → get_or nm₀ i 0 < length t) → (i : ℕ) → i < count → get_or nm i 0 < length t
 
-pub begin : (t s l : List ℕ) (n wanted : ℕ) (nm nl : List ℕ) (from : ℕ) → Collecting t s l n wanted nm nl from nm nl from 0
+pub begin : (t s l : List ℕ) (n : ℕ) (wanted : Keyword) (nm nl : List ℕ) (from : ℕ) → Collecting t s l n wanted nm nl from nm nl from 0
 begin t s l n wanted nm nl from = record { words = refl; counted = refl; long = refl; wide = refl; inside = λ old. old }
 
-module _ (t s l : List ℕ) (n wanted : ℕ) (nm₀ nl₀ : List ℕ) (from : ℕ) (nm nl : List ℕ) (count k : ℕ)
+module _ (t s l : List ℕ) (n : ℕ) (wanted : Keyword) (nm₀ nl₀ : List ℕ) (from : ℕ) (nm nl : List ℕ) (count k : ℕ)
     (c : Collecting t s l n wanted nm₀ nl₀ from nm nl count k) where
   module _ (r : ℕ) (here : k < n) (rest : r ≡ rest_at l n k) where
     abbrev many : ℕ

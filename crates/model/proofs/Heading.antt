@@ -1,4 +1,5 @@
 -- Gates entered by the word numbers of their lines. Assumes nothing.
+use Rattle.statements.specs.declared.Keyword.{Keyword}
 use Prim.Native.Nat.{ℕ, suc, ◌+◌, ◌<◌, ◌≤◌}
 use mathlib.Core.Path.{◌≡◌, refl, ap, sym, subst, ◌∙◌}
 use mathlib.Core.Bool.{Bool, true, false, cond}
@@ -9,18 +10,17 @@ use native.Mathlib.Numerals.{add-one}
 use native.Mathlib.Omega.{arith}
 use lib.ListN.{length, get_or, drop, set, length-set, length-drop}
 use lib.Seq.{get_or-set_same, get_or-set_other, get_or-drop, drop-drop}
-use lib.Dec.{eqb}
 use Rattle.statements.specs.Lines.{Line}
-use Rattle.model.specs.Model.{key_of, gates_key, listed, GateText, gates_of, no_gate}
+use Rattle.model.specs.Model.{key_of, gates_key, listed, GateText, gates_of, no_gate, same_key}
 use Rattle.model.specs.Tables.{key_at, rest_at, lines_from, gate_from, Heads}
 use Rattle.model.proofs.Runs.{parted, lines_end}
 
 -- each gate's line lists one name
 pub gates-listed : (ls : List Line) → length (listed gates_key ls) ≡ length (gates_of ls)
 gates-listed [] = refl
-gates-listed (l ∷ ls) = go (eqb (key_of l.words) gates_key) refl (gates-listed ls)
+gates-listed (l ∷ ls) = go (same_key (key_of l.words) gates_key) refl (gates-listed ls)
   where
-    go : (b : Bool) → eqb (key_of l.words) gates_key ≡ b → length (listed gates_key ls) ≡ length (gates_of ls)
+    go : (b : Bool) → same_key (key_of l.words) gates_key ≡ b → length (listed gates_key ls) ≡ length (gates_of ls)
         → length (listed gates_key (l ∷ ls)) ≡ length (gates_of (l ∷ ls))
     go true e ih = rw e (ap suc ih)
     go false e ih = rw e ih
@@ -49,13 +49,13 @@ module _ (t s l : List ℕ) (n : ℕ) (heads : List ℕ) (count k r : ℕ) (here
   later = gates_of (lines_from t s l n (k + (r + 1)))
 
   -- the line at k is a gate's, or none
-  next : drop count (gates_of (lines_from t s l n 0)) ≡ cond (eqb (key_at t s k) gates_key) (gate_from t s l n k ∷ []) [] ++ gates_of (lines_from t s l n (k + (r + 1)))
+  next : drop count (gates_of (lines_from t s l n 0)) ≡ cond (same_key (key_at t s k) gates_key) (gate_from t s l n k ∷ []) [] ++ gates_of (lines_from t s l n (k + (r + 1)))
   next = c.rest ∙ ap gates_of (parted t s l n k r here rest) ∙ rw (rest, add-one) refl
 
-  pub passed-by : eqb (key_at t s k) gates_key ≡ false → Heading t s l n heads count (k + (r + 1))
+  pub passed-by : same_key (key_at t s k) gates_key ≡ false → Heading t s l n heads count (k + (r + 1))
   passed-by e = record { so_far = c.so_far; few = omega (arith, c.few); top = c.top; rest = rw e at next }
 
-  module _ (e : eqb (key_at t s k) gates_key ≡ true) where
+  module _ (e : same_key (key_at t s k) gates_key ≡ true) where
     front : drop count (gates_of (lines_from t s l n 0)) ≡ gate_from t s l n k ∷ gates_of (lines_from t s l n (k + (r + 1)))
     front = rw e at next
 
@@ -95,12 +95,12 @@ module _ (t s l : List ℕ) (n : ℕ) (heads : List ℕ) (count k r : ℕ) (here
 -- either way
 module _ (t s l : List ℕ) (n : ℕ) (heads : List ℕ) (count k r : ℕ) (here : k < n) (rest : r ≡ rest_at l n k) (c : Heading t s l n heads count k)
     (room : length (gates_of (lines_from t s l n 0)) ≤ length heads) where
-  pub turn : (key : ℕ) → key ≡ key_at t s k → (heads' : List ℕ) (count' : ℕ)
-      → heads' ≡ cond (eqb key gates_key) (set heads count k) heads → count' ≡ count + cond (eqb key gates_key) 1 0
+  pub turn : (key : Keyword) → key ≡ key_at t s k → (heads' : List ℕ) (count' : ℕ)
+      → heads' ≡ cond (same_key key gates_key) (set heads count k) heads → count' ≡ count + cond (same_key key gates_key) 1 0
       → (length heads' ≡ length heads) × Heading t s l n heads' count' (k + (r + 1))
-  turn key q heads' count' e f = go (eqb (key_at t s k) gates_key) refl
+  turn key q heads' count' e f = go (same_key (key_at t s k) gates_key) refl
     where
-      go : (b : Bool) → eqb (key_at t s k) gates_key ≡ b → (length heads' ≡ length heads) × Heading t s l n heads' count' (k + (r + 1))
+      go : (b : Bool) → same_key (key_at t s k) gates_key ≡ b → (length heads' ≡ length heads) × Heading t s l n heads' count' (k + (r + 1))
       go true p =
           let own : heads' ≡ set heads count k = rw (q, p) at e in
           let one : count' ≡ count + 1 = rw (q, p) at f in

@@ -1,4 +1,5 @@
 -- A line's names are a run of words. Assumes nothing.
+use Rattle.statements.specs.declared.Keyword.{Keyword}
 use Prim.Native.Nat.{ℕ, zero, suc, ◌+◌, ◌-◌, ◌<◌, ◌≤◌}
 use mathlib.Core.Path.{◌≡◌, refl, ap, subst, ◌∙◌}
 use mathlib.Core.Bool.{Bool, true, false, cond}
@@ -16,7 +17,7 @@ use Rattle.statements.specs.declared.Phase.TheVariants.{Before}
 use Rattle.statements.specs.Lines.{line_of, bytes_from, alike}
 use Rattle.statements.proofs.Lines.{length-bytes, bytes-at, alike-short}
 use Rattle.statements.proofs.Faults.{split}
-use Rattle.model.specs.Model.{key_of, after, word_in, names_in, listed, gates_key, no_word}
+use Rattle.model.specs.Model.{key_of, after, word_in, names_in, listed, gates_key, no_word, same_key}
 use Rattle.model.specs.Counts.{line_at, over_fault}
 use Rattle.model.specs.Tables.{key_at, run_start, run_many, rest_at, lines_from}
 use Rattle.refusal.specs.declared.Cause.TheVariants.{TextModel}
@@ -64,15 +65,15 @@ module _ (t s l : List ℕ) (n k r : ℕ) (inside : k < n) (rest : r ≡ rest_at
   pub parted : lines_from t s l n k ≡ line_of (get_or l k 0) (bytes_from t s k (r + 1)) ∷ lines_from t s l n (k + (r + 1))
   parted = split t s l n 0 Before k r inside rest
 
-  abbrev key : ℕ
+  abbrev key : Keyword
   key = key_at t s k
 
   key-of : key_of (bytes_from t s k (r + 1)) ≡ key
   key-of = rw add-one refl
 
   -- its names, where it has the keyword wanted, are a run of words
-  names-run : (wanted : ℕ) → names_in wanted (line_of (get_or l k 0) (bytes_from t s k (r + 1))) ≡ held t s l (run_start wanted k r) (cond (eqb wanted gates_key) 1 r)
-  names-run wanted = go (eqb wanted gates_key) refl
+  names-run : (wanted : Keyword) → names_in wanted (line_of (get_or l k 0) (bytes_from t s k (r + 1))) ≡ held t s l (run_start wanted k r) (cond (same_key wanted gates_key) 1 r)
+  names-run wanted = go (same_key wanted gates_key) refl
     where
       one : length (bytes_from t s k (r + 1)) - 1 ≡ r
       one = omega (arith, length-bytes t s k (r + 1))
@@ -83,40 +84,40 @@ module _ (t s l : List ℕ) (n k r : ℕ) (inside : k < n) (rest : r ≡ rest_at
       shift : (j : ℕ) → k + suc j ≡ k + 1 + j
       shift j = omega arith
 
-      go : (b : Bool) → eqb wanted gates_key ≡ b → names_in wanted (line_of (get_or l k 0) (bytes_from t s k (r + 1))) ≡ held t s l (run_start wanted k r) (cond (eqb wanted gates_key) 1 r)
+      go : (b : Bool) → same_key wanted gates_key ≡ b → names_in wanted (line_of (get_or l k 0) (bytes_from t s k (r + 1))) ≡ held t s l (run_start wanted k r) (cond (same_key wanted gates_key) 1 r)
       go true e = rw (e, one, bytes-at t s k (r + 1) r (omega arith), same_line r (omega arith))
       go false e = rw (e, rest-bytes) (in-line t s l (get_or l k 0) (k + 1) r (λ j m. rw (← shift j) (same_line (suc j) (omega arith))))
 
-  pub listed-run : (wanted : ℕ)
+  pub listed-run : (wanted : Keyword)
       → listed wanted (lines_from t s l n k) ≡ held t s l (run_start wanted k r) (run_many key wanted r) ++ listed wanted (lines_from t s l n (k + (r + 1)))
-  listed-run wanted = rw (parted, key-of) (go (eqb key wanted) refl)
+  listed-run wanted = rw (parted, key-of) (go (same_key key wanted) refl)
     where
       rest-listed : List Word
       rest-listed = listed wanted (lines_from t s l n (k + (r + 1)))
 
-      go : (b : Bool) → eqb key wanted ≡ b
-          → cond (eqb key wanted) (names_in wanted (line_of (get_or l k 0) (bytes_from t s k (r + 1)))) [] ++ listed wanted (lines_from t s l n (k + (r + 1)))
+      go : (b : Bool) → same_key key wanted ≡ b
+          → cond (same_key key wanted) (names_in wanted (line_of (get_or l k 0) (bytes_from t s k (r + 1)))) [] ++ listed wanted (lines_from t s l n (k + (r + 1)))
           ≡ held t s l (run_start wanted k r) (run_many key wanted r) ++ listed wanted (lines_from t s l n (k + (r + 1)))
       go true e = rw (e, names-run wanted)
       go false e = rw e refl
 
   -- a run has the line's number, and stays inside the n words
-  pub run_inside : (wanted : ℕ) → run_start wanted k r + run_many key wanted r ≤ n
-  run_inside wanted = go (eqb wanted gates_key) refl (eqb key wanted) refl
+  pub run_inside : (wanted : Keyword) → run_start wanted k r + run_many key wanted r ≤ n
+  run_inside wanted = go (same_key wanted gates_key) refl (same_key key wanted) refl
     where
-      go : (b : Bool) → eqb wanted gates_key ≡ b → (d : Bool) → eqb key wanted ≡ d → run_start wanted k r + run_many key wanted r ≤ n
+      go : (b : Bool) → same_key wanted gates_key ≡ b → (d : Bool) → same_key key wanted ≡ d → run_start wanted k r + run_many key wanted r ≤ n
       go true e true d = rw (e, d) (omega (arith, shorter))
       go false e true d = rw (e, d) (omega (arith, shorter))
       go true e false d = rw (e, d) (omega (arith, shorter))
       go false e false d = rw (e, d) (omega (arith, shorter))
 
-  pub run-line : (wanted i : ℕ) → i < run_many key wanted r → get_or l (run_start wanted k r + i) 0 ≡ get_or l k 0
-  run-line wanted i h = go (eqb wanted gates_key) refl (eqb key wanted) refl
+  pub run-line : (wanted : Keyword) (i : ℕ) → i < run_many key wanted r → get_or l (run_start wanted k r + i) 0 ≡ get_or l k 0
+  run-line wanted i h = go (same_key wanted gates_key) refl (same_key key wanted) refl
     where
       shift : k + 1 + i ≡ k + suc i
       shift = omega arith
 
-      go : (b : Bool) → eqb wanted gates_key ≡ b → (d : Bool) → eqb key wanted ≡ d → get_or l (run_start wanted k r + i) 0 ≡ get_or l k 0
+      go : (b : Bool) → same_key wanted gates_key ≡ b → (d : Bool) → same_key key wanted ≡ d → get_or l (run_start wanted k r + i) 0 ≡ get_or l k 0
       go b e false d = let none : i < 0 = rw d at h in absurd (omega arith)
       go true e true d =
           let low : i < 1 = rw (d, e) at h in
@@ -168,7 +169,7 @@ module _ (t s l : List ℕ) (a m : ℕ) (ws : List Word) (most : ℕ) where
           go false e = lt-leb (length (held t s l a m ++ ws)) most (omega (arith, together, leb-false (length ws) (most - m) e))
 
 -- a line with too many names, and one that leaves room
-module _ (t s l : List ℕ) (n k r : ℕ) (inside : k < n) (rest : r ≡ rest_at l n k) (wanted m : ℕ) (run : m ≡ run_many (key_at t s k) wanted r) (most : ℕ) where
+module _ (t s l : List ℕ) (n k r : ℕ) (inside : k < n) (rest : r ≡ rest_at l n k) (wanted : Keyword) (m : ℕ) (run : m ≡ run_many (key_at t s k) wanted r) (most : ℕ) where
   pub refuse-here : most < m → over_fault (listed wanted (lines_from t s l n k)) most ≡ refused TextModel (get_or l k 0)
   refuse-here h =
       let low : most < run_many (key_at t s k) wanted r = rw run at h in

@@ -1,7 +1,7 @@
 -- Refusal 19, its first test: counts outside the image's.
 use Rattle.std.specs.Prelude.{ℕ, cond, List, length, get_or, leb}
 use Rattle.refusal.specs.Judgement.{Judgement}
-use Rattle.refusal.specs.Judgement.{Fine, refused}
+use Rattle.refusal.specs.Judgement.{Fine}
 use Rattle.refusal.specs.Judgement.{refuse_unless}
 use Rattle.area.specs.Layout.{most_inputs, most_gates, most_outputs}
 use Rattle.texts.specs.Words.{Word}

@@ -1,20 +1,21 @@
 -- Tables of names: entry k of one has where name k starts, entry k of the other its line.
-use Rattle.std.specs.Prelude.{ℕ, ◌+◌, ◌-◌, ◌<◌, cond, List, ◌++◌, ◌≡◌, length, get_or, drop, eqb}
+use Rattle.std.specs.Prelude.{ℕ, ◌+◌, ◌-◌, ◌<◌, cond, List, ◌++◌, ◌≡◌, length, get_or, drop}
 use Rattle.texts.specs.Words.{Word, held, word_of}
 use Rattle.statements.specs.Lines.{Line, line_of, lines_of, bytes_from, alike}
 use Rattle.statements.specs.Fit.{keyword_of}
-use Rattle.model.specs.Model.{key_number, gates_key, GateText, cover_of, gates_of, no_gate}
+use Rattle.statements.specs.declared.Keyword.{Keyword}
+use Rattle.model.specs.Model.{same_key, gates_key, GateText, cover_of, gates_of, no_gate}
 
 -- the keyword that word k is
-abbrev pub key_at : List ℕ → List ℕ → ℕ → ℕ
-key_at text starts k = key_number (keyword_of (word_of (drop (get_or starts k 0) text)))
+abbrev pub key_at : List ℕ → List ℕ → ℕ → Keyword
+key_at text starts k = keyword_of (word_of (drop (get_or starts k 0) text))
 
 -- the names of a line with r words after word k, if its keyword is the one wanted: where they start, and how many they are
-abbrev pub run_start : ℕ → ℕ → ℕ → ℕ
-run_start wanted k r = cond (eqb wanted gates_key) (k + r) (k + 1)
+abbrev pub run_start : Keyword → ℕ → ℕ → ℕ
+run_start wanted k r = cond (same_key wanted gates_key) (k + r) (k + 1)
 
-abbrev pub run_many : ℕ → ℕ → ℕ → ℕ
-run_many key wanted r = cond (eqb key wanted) (cond (eqb wanted gates_key) 1 r) 0
+abbrev pub run_many : Keyword → Keyword → ℕ → ℕ
+run_many key wanted r = cond (same_key key wanted) (cond (same_key wanted gates_key) 1 r) 0
 
 -- names put after count others
 pub record Collected (text : List ℕ) (names lines : List ℕ) (count : ℕ) (more : List Word) (names' lines' : List ℕ) (count' : ℕ) : Type 0 where

@@ -1,65 +1,43 @@
 // The model of a text: which words are inputs, outputs and gates, and how many there may be.
 #![tactic(auto)]
 
-ghost use Rattle.std.specs.Prelude.{◌≡◌, ℕ, ◌+◌, ◌<◌, ◌≤◌, true, cond, List, eqb, length, get_or, set, take, drop};
+ghost use Rattle.std.specs.Prelude.{◌≡◌, ℕ, ◌+◌, ◌<◌, ◌≤◌, true, cond, List, length, get_or, set, take, drop};
 ghost use Rattle.std.proofs.lemmas.List.Edits.{sets};
 ghost use Rattle.texts.specs.Words.{held, most_words};
 ghost use Rattle.statements.specs.Lines.{Places};
-ghost use Rattle.model.specs.Model.{key_number, gates_key, listed, gates_of};
+ghost use Rattle.model.specs.Model.{same_key, gates_key, listed, gates_of};
 ghost use Rattle.model.specs.Counts.{over_fault};
 ghost use Rattle.model.specs.Tables.{key_at, run_start, run_many, lines_from, Collected, Heads};
 
-use refusal::Judgement;
+use refusal::{Cause, Refusal};
 use statements::Keyword;
 
-// Keywords by number.
-pub const INPUTS: usize = 1;
-
-pub const OUTPUTS: usize = 2;
-
-pub const GATES: usize = 3;
-
-pub const COVER: usize = 5;
-
-fn number_of(key: Keyword) -> usize
-    ensures { result ≡ key_number key }
-{
-    match key {
-        Keyword::Model => 0,
-        Keyword::Inputs => 1,
-        Keyword::Outputs => 2,
-        Keyword::Names => 3,
-        Keyword::End => 4,
-        Keyword::Other => 5,
-    }
-}
-
 // The keyword that word k is.
-pub fn key_at(text: &[u8], starts: &[u16], k: usize) -> usize
+pub fn key_at(text: &[u8], starts: &[u16], k: usize) -> Keyword
     requires { (k < length starts.now) × (get_or starts.now k 0 < length text.now) }
     ensures { result ≡ key_at text.now starts.now k }
 {
-    number_of(statements::keyword_of(names::word(text, names::entry(starts, k))))
+    statements::keyword_of(names::word(text, names::entry(starts, k)))
 }
 
 // A line's names: a gate's own is the last word, inputs and outputs are all words after the keyword.
-fn run_start(wanted: usize, k: usize, rest: usize) -> usize
+fn run_start(wanted: Keyword, k: usize, rest: usize) -> usize
     requires { k + rest < 65_536 }
     ensures { result ≡ run_start wanted k rest }
 {
-    if wanted == GATES {
+    if wanted == Keyword::Names {
         return k + rest;
     }
     k + 1
 }
 
-fn run_many(key: usize, wanted: usize, rest: usize) -> usize
+fn run_many(key: Keyword, wanted: Keyword, rest: usize) -> usize
     ensures { result ≡ run_many key wanted rest }
 {
     if key != wanted {
         return 0;
     }
-    if wanted == GATES {
+    if wanted == Keyword::Names {
         return 1;
     }
     rest
@@ -71,9 +49,9 @@ pub fn judge_count(
     starts: &[u16],
     lines: &[u16],
     n: usize,
-    wanted: usize,
+    wanted: Keyword,
     most: usize,
-) -> Judgement
+) -> Result<(), Refusal>
     requires { Places text.now starts.now n × (n ≤ length lines.now) × (n ≤ most_words) × (most < 65_536) }
     ensures { result ≡ over_fault (listed wanted (lines_from text.now starts.now lines.now n 0)) most }
 {
@@ -83,12 +61,15 @@ pub fn judge_count(
         let rest = statements::line_rest(lines, k, n);
         let many = run_many(key_at(text, starts, k), wanted, rest);
         if many > left {
-            return Judgement::Refused(refusal::TEXT_MODEL, names::line(lines, k));
+            return Err(Refusal {
+                cause: Cause::TextModel,
+                place: names::line(lines, k),
+            });
         }
         left -= many;
         k += rest + 1;
     }
-    Judgement::Fine
+    Ok(())
 }
 
 // The `many` entries from `start` on, put into a table after `count` others.
@@ -130,7 +111,7 @@ pub fn collect(
     starts: &[u16],
     lines: &[u16],
     n: usize,
-    wanted: usize,
+    wanted: Keyword,
     names: &mut [u16],
     numbers: &mut [u16],
     from: usize,
@@ -161,13 +142,13 @@ pub fn collect(
 }
 
 // Enters word k as the beginning of a gate's line, if it is `.names`.
-fn enter_head(heads: &mut [u16], count: usize, key: usize, k: usize) -> usize
-    requires count_in_bounds { eqb key gates_key ≡ true → count < length heads.old }
+fn enter_head(heads: &mut [u16], count: usize, key: Keyword, k: usize) -> usize
+    requires count_in_bounds { same_key key gates_key ≡ true → count < length heads.old }
     requires k_bound { (k < 65_536) × (count < 65_536) }
-    ensures value { result ≡ count + cond (eqb key gates_key) 1 0 }
-    ensures heads_after { heads.new ≡ cond (eqb key gates_key) (set heads.old count k) heads.old }
+    ensures value { result ≡ count + cond (same_key key gates_key) 1 0 }
+    ensures heads_after { heads.new ≡ cond (same_key key gates_key) (set heads.old count k) heads.old }
 {
-    if key == GATES {
+    if key == Keyword::Names {
         heads[count] = k as u16;
         return count + 1;
     }

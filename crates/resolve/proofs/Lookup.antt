@@ -121,7 +121,7 @@ module _ (t nm : List ℕ) (m : ℕ) (s l : List ℕ) (start count : ℕ) (old :
     unfolding unknown_fault
     stops d e top ls =
         rw (held-length t s l start count)
-        (lowest-answer (unknown_at (held t nm ls 0 m) (held t s l start count)) count i 19 (get_or l (start + i) 0) here (look.fine ls)
+        (lowest-answer (unknown_at (held t nm ls 0 m) (held t s l start count)) count i TextModel (get_or l (start + i) 0) here (look.fine ls)
         (unknown t nm ls m s l start count i here (omega arith)))
 
   pub finish : (new : List ℕ) (i : ℕ) → i ≡ count → Looking t nm m s l start count old new base i
@@ -134,7 +134,7 @@ module _ (t nm nl : List ℕ) (m i : ℕ) where
   pub again-stops : i < m → lowest (again_at (held t nm nl 0 m)) i ≡ Fine → (found_at t nm m nm i ≡ i → ⊥) → refused TextModel (get_or nl i 0) ≡ again_fault (held t nm nl 0 m)
   unfolding again_fault
   again-stops here fine e =
-      rw (held-length t nm nl 0 m) (lowest-answer (again_at (held t nm nl 0 m)) m i 19 (get_or nl i 0) here fine (again-later t nm nl m i here e))
+      rw (held-length t nm nl 0 m) (lowest-answer (again_at (held t nm nl 0 m)) m i TextModel (get_or nl i 0) here fine (again-later t nm nl m i here e))
 
   pub again-ends : i ≡ m → lowest (again_at (held t nm nl 0 m)) i ≡ Fine → Fine ≡ again_fault (held t nm nl 0 m)
   unfolding again_fault

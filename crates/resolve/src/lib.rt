@@ -2,7 +2,7 @@
 #![tactic(auto)]
 
 ghost use Rattle.std.specs.Prelude.{◌≡◌, List, ℕ, ◌+◌, ◌-◌, ◌*◌, ◌<◌, ◌≤◌, length, get_or, set};
-ghost use Rattle.refusal.specs.declared.Judgement.TheVariants.{Fine};
+ghost use Rattle.refusal.specs.Judgement.{Fine};
 ghost use Rattle.refusal.specs.Judgement.{lowest};
 ghost use Rattle.area.specs.Layout.{most_pins, most_gates};
 ghost use Rattle.texts.specs.Words.{held};
@@ -12,7 +12,7 @@ ghost use Rattle.model.specs.Tables.{rest_at, gate_from};
 ghost use Rattle.resolve.specs.Names.{again_fault, unknown_fault};
 ghost use Rattle.resolve.specs.Found.{found_at, Found, Sources, Headed, Room, Clear};
 
-use refusal::Judgement;
+use refusal::{Cause, Refusal};
 
 // The number of the first of `many` names that word k is; `many` if none is.
 fn find_word(text: &[u8], names: &[u16], many: usize, starts: &[u16], k: usize) -> usize
@@ -29,18 +29,21 @@ fn find_word(text: &[u8], names: &[u16], many: usize, starts: &[u16], k: usize) 
 }
 
 // A name that is defined twice is refused at the line that defines it again.
-pub fn judge_again(text: &[u8], names: &[u16], numbers: &[u16], many: usize) -> Judgement
+pub fn judge_again(text: &[u8], names: &[u16], numbers: &[u16], many: usize) -> Result<(), Refusal>
     requires { Places text.now names.now many × (many ≤ length numbers.now) }
     ensures { result ≡ again_fault (held text.now names.now numbers.now 0 many) }
 {
     let mut i = 0;
     while i < many {
         if find_word(text, names, many, names, i) != i {
-            return Judgement::Refused(refusal::TEXT_MODEL, names::line(numbers, i));
+            return Err(Refusal {
+                cause: Cause::TextModel,
+                place: names::line(numbers, i),
+            });
         }
         i += 1;
     }
-    Judgement::Fine
+    Ok(())
 }
 
 // Looks up the `count` words from `start` on; an undefined name is refused at its line. The numbers go into a table from `base` on.
@@ -54,7 +57,7 @@ pub fn resolve(
     count: usize,
     table: &mut [u16],
     base: usize,
-) -> Judgement
+) -> Result<(), Refusal>
     requires places { Places text.now names.now many × (many < 65_536) }
     requires places_2 { Places text.now starts.now (start + count) × (start + count ≤ length lines.now) }
     requires count_in_bounds { base + count ≤ length table.old }
@@ -67,12 +70,15 @@ pub fn resolve(
     while i < count {
         let number = find_word(text, names, many, starts, start + i);
         if number == many {
-            return Judgement::Refused(refusal::TEXT_MODEL, names::line(lines, start + i));
+            return Err(Refusal {
+                cause: Cause::TextModel,
+                place: names::line(lines, start + i),
+            });
         }
         table[base + i] = number as u16;
         i += 1;
     }
-    Judgement::Fine
+    Ok(())
 }
 
 // The sources of one gate, whose line begins with word `head` of n.
@@ -87,7 +93,7 @@ fn resolve_gate(
     gate: usize,
     pins: &mut [u16],
     counts: &mut [u16],
-) -> Judgement
+) -> Result<(), Refusal>
     requires places { Places text.now names.now many × (many < 65_536) }
     requires places_2 { Places text.now starts.now n × (n ≤ length lines.now) }
     requires head_lt_n { (head < n) × (1 ≤ rest_at lines.now n head) × (rest_at lines.now n head ≤ most_pins + 1) }
@@ -125,7 +131,7 @@ pub fn resolve_gates(
     gates: usize,
     pins: &mut [u16],
     counts: &mut [u16],
-) -> Judgement
+) -> Result<(), Refusal>
     requires places { Places text.now names.now many × (many < 65_536) }
     requires places_2 { Places text.now starts.now n × (n ≤ length lines.now) }
     requires gates_le_most_gates { (gates ≤ most_gates) × (gates ≤ length heads.now) × Headed lines.now n heads.now gates }
@@ -137,7 +143,7 @@ pub fn resolve_gates(
 {
     let mut j = 0;
     while j < gates {
-        match resolve_gate(
+        resolve_gate(
             text,
             names,
             many,
@@ -148,14 +154,8 @@ pub fn resolve_gates(
             j,
             pins,
             counts,
-        ) {
-            Judgement::Fine => {
-                j += 1;
-            }
-            Judgement::Refused(number, place) => {
-                return Judgement::Refused(number, place);
-            }
-        }
+        )?;
+        j += 1;
     }
-    Judgement::Fine
+    Ok(())
 }

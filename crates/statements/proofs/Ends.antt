@@ -40,6 +40,7 @@ use Rattle.statements.specs.declared.Keyword.TheVariants.{Model, Inputs, Outputs
 use Rattle.statements.specs.declared.Phase.{Phase}
 use Rattle.statements.specs.declared.Phase.TheVariants.{Before, Heading, Cover, Ended, Misfit}
 use Rattle.statements.specs.Statements.{EndIsLast}
+use Rattle.refusal.specs.declared.Cause.TheVariants.{TextLine}
 
 -- two answers of a test differ
 pub never : {A : Type 0} (b : Bool) → b ≡ true → b ≡ false → A
@@ -128,16 +129,16 @@ pub fitted : (p : Phase) (l : Line) (ls : List Line) (last : ℕ) → fault p (l
 fitted p l ls last e = go (is_misfit (fit p l.words)) refl
   where
     go : (b : Bool) → is_misfit (fit p l.words) ≡ b → is_misfit (fit p l.words) ≡ false
-    go true q = refused-not-fine 18 l.number (rw q at e)
+    go true q = refused-not-fine TextLine l.number (rw q at e)
     go false q = q
 
 pub later : (p : Phase) (l : Line) (ls : List Line) (last : ℕ) → fault p (l ∷ ls) last ≡ Fine → fault (fit p l.words) ls last ≡ Fine
 later p l ls last e = rw (fitted p l ls last e) at e
 
 last-from : (p : Phase) (l : Line) (ls : List Line) (last : ℕ) → fault p (l ∷ ls) last ≡ Fine → (last_line (l ∷ ls)).words ≡ key_end ∷ []
-last-from p l [] last e = the_end p l.words (unless-fine (is_ended (fit p l.words)) 18 last (later p l [] last e))
+last-from p l [] last e = the_end p l.words (unless-fine (is_ended (fit p l.words)) TextLine last (later p l [] last e))
 last-from p l (k ∷ ls) last e = last-from (fit p l.words) k ls last (later p l (k ∷ ls) last e)
 
 pub end-is-last : EndIsLast
-end-is-last [] last e = refused-not-fine 18 last e
+end-is-last [] last e = refused-not-fine TextLine last e
 end-is-last (l ∷ ls) last e = last-from Before l ls last e

@@ -8,9 +8,9 @@ ghost use Rattle.statements.specs.Fit.{after_value, after_line, after_first, aft
 ghost use Rattle.texts.specs.Words.{held, word_of};
 ghost use Rattle.names.specs.Names.{is_name};
 
-use refusal::Judgement;
+use refusal::{Cause, Refusal};
 
-#[derive(Clone, Copy)]
+#[derive(Clone, Copy, PartialEq, Eq)]
 pub enum Keyword {
     Model,
     Inputs,
@@ -347,7 +347,7 @@ fn is_ended(phase: Phase) -> bool
 }
 
 // Refusal 18 of the n words' lines: the first that does not fit; `last` where only `.end` is missing.
-pub fn fault(text: &[u8], starts: &[u16], lines: &[u16], n: usize, last: u32) -> Judgement
+pub fn fault(text: &[u8], starts: &[u16], lines: &[u16], n: usize, last: u32) -> Result<(), Refusal>
     requires { Places text.now starts.now n × (n ≤ length lines.now) }
     ensures { result ≡ fault Phase.Before (lines_of (held text.now starts.now lines.now 0 n)) last }
 {
@@ -357,12 +357,18 @@ pub fn fault(text: &[u8], starts: &[u16], lines: &[u16], n: usize, last: u32) ->
         let rest = line_rest(lines, k, n);
         phase = fit(text, starts, phase, k, rest);
         if is_misfit(phase) {
-            return Judgement::Refused(refusal::TEXT_LINE, names::line(lines, k));
+            return Err(Refusal {
+                cause: Cause::TextLine,
+                place: names::line(lines, k),
+            });
         }
         k += rest + 1;
     }
     if is_ended(phase) {
-        return Judgement::Fine;
+        return Ok(());
     }
-    Judgement::Refused(refusal::TEXT_LINE, last)
+    Err(Refusal {
+        cause: Cause::TextLine,
+        place: last,
+    })
 }

@@ -15,13 +15,13 @@ pub line-requires : goal.line-requires
 line-requires c =
     omega (arith, c.requires.0.numbered, c.requires.1)
 
-pub returns-in-Fine : goal.returns-in-Fine
-returns-in-Fine c =
+pub returns-in-Ok : goal.returns-in-Ok
+returns-in-Ok c =
     let a = c.args in
     ap (refused TextModel) (c.line.ensures ∙ sym (last_line-number a.text.now a.starts.now a.lines.now a.n c.requires.1))
-    ∙ sym (no_output (lines_from a.text.now a.starts.now a.lines.now a.n 0) (sym c.judge_count.ensures ∙ c.in-Fine.is))
+    ∙ sym (no_output (lines_from a.text.now a.starts.now a.lines.now a.n 0) (sym c.judge_count.ensures ∙ c.in-Ok.is))
 
-pub returns-in-Refused : goal.returns-in-Refused
-returns-in-Refused c =
+pub returns-in-Err : goal.returns-in-Err
+returns-in-Err c =
     let a = c.args in
-    sym (some_output (lines_from a.text.now a.starts.now a.lines.now a.n 0) _ _ (sym c.judge_count.ensures ∙ c.in-Refused.is))
+    sym (some_output (lines_from a.text.now a.starts.now a.lines.now a.n 0) _ _ (sym c.judge_count.ensures ∙ c.in-Err.is))

@@ -18,20 +18,20 @@ returns-then-text-gt-MOST_BYTES c =
 pub read_model-requires : goal.read_model-requires
 read_model-requires c =
     let at-read-words = c.read_words-found in
-    let fine = sym c.fault.ensures ∙ c.in-Fine.is in record { words = (words at-read-words.ensures, some_word at-read-words.ensures fine); fitting = fits at-read-words.ensures fine }
+    let fine = sym c.fault.ensures ∙ c.in_ok-fault.was in record { words = (words at-read-words.ensures, some_word at-read-words.ensures fine); fitting = fits at-read-words.ensures fine }
 
-pub returns-in-Fine : goal.returns-in-Fine
-returns-in-Fine c =
+pub returns : goal.returns
+returns c =
     let at-read-words = c.read_words-found in
     let a = c.args in
-    let fine = sym c.fault.ensures ∙ c.in-Fine.is in
+    let fine = sym c.fault.ensures ∙ c.in_ok-fault.was in
     let e = rw (same_lines at-read-words.ensures) at c.read_model.ensures in rw (not-long a.text.now (length a.image.now) c.if-text-gt-MOST_BYTES.false)
     (let all = goes_on (fault Before (text_lines a.text.now) (1 + line_feeds a.text.now)) (lines_refusal (text_lines a.text.now) (length a.image.now)) (model_length (text_lines a.text.now)) (image_over (text_lines a.text.now) a.image.now) a.image.now _ _
     (sym (same-fault at-read-words.ensures) ∙ fine) (e.value, e.image_after) in record { value = all.0; image_after = all.1 })
 
-pub returns-in-Refused : goal.returns-in-Refused
-returns-in-Refused c =
+pub returns-in_err-fault : goal.returns-in_err-fault
+returns-in_err-fault c =
     let at-read-words = c.read_words-found in
     let a = c.args in rw (not-long a.text.now (length a.image.now) c.if-text-gt-MOST_BYTES.false)
-    (let all = stops (fault Before (text_lines a.text.now) (1 + line_feeds a.text.now)) (lines_refusal (text_lines a.text.now) (length a.image.now)) (model_length (text_lines a.text.now)) _ _ (image_over (text_lines a.text.now) a.image.now) a.image.now
-    (sym (same-fault at-read-words.ensures) ∙ sym c.fault.ensures ∙ c.in-Refused.is) in record { value = all.0; image_after = all.1 })
+    (let all = stops (fault Before (text_lines a.text.now) (1 + line_feeds a.text.now)) (lines_refusal (text_lines a.text.now) (length a.image.now)) (model_length (text_lines a.text.now)) _ (image_over (text_lines a.text.now) a.image.now) a.image.now _
+    (sym (same-fault at-read-words.ensures) ∙ sym c.fault.ensures ∙ c.in_err-fault.was) c.from_residual.ensures.1 in record { value = all.0; image_after = all.1 })

@@ -19,18 +19,18 @@ pub place_model-requires : goal.place_model-requires
 place_model-requires c =
     let at-resolve-gates = c.resolve_gates in
     let a = c.args in
-    let told = c.in-Fine.is in
+    let told = c.in_ok-resolve_gates.was in
     resolved c.requires.named (at-resolve-gates.ensures.sources told a.numbers.now) c.requires.outputs_known
     (sym (at-resolve-gates.ensures.by_index a.numbers.now ∙ same-sources c.requires.named) ∙ told)
 
-pub returns-in-Fine : goal.returns-in-Fine
-returns-in-Fine c =
+pub returns : goal.returns
+returns c =
     let a = c.args in
     let ls = lines_from a.text.now a.starts.now a.lines.now a.n 0 in let all = goes_on (sources_fault ls) (placed_refusal ls (length a.image.now)) (model_length ls) (image_over ls a.image.now) a.image.now _ _
-    (sym (c.resolve_gates.ensures.by_index a.numbers.now ∙ same-sources c.requires.named) ∙ c.in-Fine.is) (c.place_model.ensures.value, c.place_model.ensures.image_after) in record { value = all.0; image_after = all.1 }
+    (sym (c.resolve_gates.ensures.by_index a.numbers.now ∙ same-sources c.requires.named) ∙ c.in_ok-resolve_gates.was) (c.place_model.ensures.value, c.place_model.ensures.image_after) in record { value = all.0; image_after = all.1 }
 
-pub returns-in-Refused : goal.returns-in-Refused
-returns-in-Refused c =
+pub returns-in_err-resolve_gates : goal.returns-in_err-resolve_gates
+returns-in_err-resolve_gates c =
     let a = c.args in
-    let ls = lines_from a.text.now a.starts.now a.lines.now a.n 0 in let all = stops (sources_fault ls) (placed_refusal ls (length a.image.now)) (model_length ls) _ _ (image_over ls a.image.now) a.image.now
-    (sym (same-sources c.requires.named) ∙ sym (c.resolve_gates.ensures.by_index a.numbers.now) ∙ c.in-Refused.is) in record { value = all.0; image_after = all.1 }
+    let ls = lines_from a.text.now a.starts.now a.lines.now a.n 0 in let all = stops (sources_fault ls) (placed_refusal ls (length a.image.now)) (model_length ls) _ (image_over ls a.image.now) a.image.now _
+    (sym (same-sources c.requires.named) ∙ sym (c.resolve_gates.ensures.by_index a.numbers.now) ∙ c.in_err-resolve_gates.was) c.from_residual.ensures.1 in record { value = all.0; image_after = all.1 }

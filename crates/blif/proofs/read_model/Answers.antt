@@ -14,18 +14,18 @@ judge_counts-requires c = c.requires.words
 
 pub read_names-requires : goal.read_names-requires
 read_names-requires c =
-    let a = c.args in record { words = c.requires.words.0; within = (within (lines_from a.text.now a.starts.now a.lines.now a.n 0) (sym c.judge_counts.ensures ∙ c.in-Fine.is), c.requires.fitting) }
+    let a = c.args in record { words = c.requires.words.0; within = (within (lines_from a.text.now a.starts.now a.lines.now a.n 0) (sym c.judge_counts.ensures ∙ c.in_ok-judge_counts.was), c.requires.fitting) }
 
-pub returns-in-Fine : goal.returns-in-Fine
-returns-in-Fine c =
+pub returns : goal.returns
+returns c =
     let a = c.args in
     let ls = lines_from a.text.now a.starts.now a.lines.now a.n 0 in rw (in_a_row-refusal ls (length a.image.now))
     (let all = goes_on (count_fault ls) (names_refusal ls (length a.image.now)) (model_length ls) (image_over ls a.image.now) a.image.now _ _
-    (sym c.judge_counts.ensures ∙ c.in-Fine.is) (c.read_names.ensures.value, c.read_names.ensures.image_after) in record { value = all.0; image_after = all.1 })
+    (sym c.judge_counts.ensures ∙ c.in_ok-judge_counts.was) (c.read_names.ensures.value, c.read_names.ensures.image_after) in record { value = all.0; image_after = all.1 })
 
-pub returns-in-Refused : goal.returns-in-Refused
-returns-in-Refused c =
+pub returns-in_err-judge_counts : goal.returns-in_err-judge_counts
+returns-in_err-judge_counts c =
     let a = c.args in
     let ls = lines_from a.text.now a.starts.now a.lines.now a.n 0 in rw (in_a_row-refusal ls (length a.image.now))
-    (let all = stops (count_fault ls) (names_refusal ls (length a.image.now)) (model_length ls) _ _ (image_over ls a.image.now) a.image.now
-    (sym c.judge_counts.ensures ∙ c.in-Refused.is) in record { value = all.0; image_after = all.1 })
+    (let all = stops (count_fault ls) (names_refusal ls (length a.image.now)) (model_length ls) _ (image_over ls a.image.now) a.image.now _
+    (sym c.judge_counts.ensures ∙ c.in_err-judge_counts.was) c.from_residual.ensures.1 in record { value = all.0; image_after = all.1 })

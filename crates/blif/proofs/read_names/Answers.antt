@@ -38,18 +38,18 @@ read_outputs-requires c =
     let h = at-heads2.ensures in
     named c.requires.words c.requires.within.0 c.requires.within.1 at-collect.ensures at-collect2.ensures h.value h.heads (omega (arith, h.value, h.heads_len_unchanged, c.requires.within.0.few_gates))
 
-pub returns-in-Fine : goal.returns-in-Fine
-returns-in-Fine c =
+pub returns : goal.returns
+returns c =
     let at-collect2 = c.collect-many in
     let at-collect = c.collect-inputs in
     let a = c.args in
     let ls = lines_from a.text.now a.starts.now a.lines.now a.n 0 in let all = goes_on (again_fault (defined ls)) (outputs_refusal ls (length a.image.now)) (model_length ls) (image_over ls a.image.now) a.image.now _ _
-    (ap again_fault (sym (all-defined c.requires.words c.requires.within.0 c.requires.within.1 at-collect.ensures at-collect2.ensures)) ∙ sym c.judge_again.ensures ∙ c.in-Fine.is) (c.read_outputs.ensures.value, c.read_outputs.ensures.image_after) in record { value = all.0; image_after = all.1 }
+    (ap again_fault (sym (all-defined c.requires.words c.requires.within.0 c.requires.within.1 at-collect.ensures at-collect2.ensures)) ∙ sym c.judge_again.ensures ∙ c.in_ok-judge_again.was) (c.read_outputs.ensures.value, c.read_outputs.ensures.image_after) in record { value = all.0; image_after = all.1 }
 
-pub returns-in-Refused : goal.returns-in-Refused
-returns-in-Refused c =
+pub returns-in_err-judge_again : goal.returns-in_err-judge_again
+returns-in_err-judge_again c =
     let at-collect2 = c.collect-many in
     let at-collect = c.collect-inputs in
     let a = c.args in
-    let ls = lines_from a.text.now a.starts.now a.lines.now a.n 0 in let all = stops (again_fault (defined ls)) (outputs_refusal ls (length a.image.now)) (model_length ls) _ _ (image_over ls a.image.now) a.image.now
-    (ap again_fault (sym (all-defined c.requires.words c.requires.within.0 c.requires.within.1 at-collect.ensures at-collect2.ensures)) ∙ sym c.judge_again.ensures ∙ c.in-Refused.is) in record { value = all.0; image_after = all.1 }
+    let ls = lines_from a.text.now a.starts.now a.lines.now a.n 0 in let all = stops (again_fault (defined ls)) (outputs_refusal ls (length a.image.now)) (model_length ls) _ (image_over ls a.image.now) a.image.now _
+    (ap again_fault (sym (all-defined c.requires.words c.requires.within.0 c.requires.within.1 at-collect.ensures at-collect2.ensures)) ∙ sym c.judge_again.ensures ∙ c.in_err-judge_again.was) c.from_residual.ensures.1 in record { value = all.0; image_after = all.1 }

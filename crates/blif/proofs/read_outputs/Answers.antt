@@ -22,18 +22,18 @@ resolve-requires c =
 
 pub read_gates-requires : goal.read_gates-requires
 read_gates-requires c =
-    let at-collect = c.collect-outputs in record { named = c.requires; outputs_known = known c.requires at-collect.ensures (c.resolve.ensures.found c.in-Fine.is) }
+    let at-collect = c.collect-outputs in record { named = c.requires; outputs_known = known c.requires at-collect.ensures (c.resolve.ensures.found c.in_ok-resolve.was) }
 
-pub returns-in-Fine : goal.returns-in-Fine
-returns-in-Fine c =
+pub returns : goal.returns
+returns c =
     let at-collect = c.collect-outputs in
     let a = c.args in
     let ls = lines_from a.text.now a.starts.now a.lines.now a.n 0 in let all = goes_on (unknown_fault (defined ls) (listed outputs_key ls)) (gates_refusal ls (length a.image.now)) (model_length ls) (image_over ls a.image.now) a.image.now _ _
-    (sym (c.resolve.ensures.by_index a.numbers.now ∙ same_outputs c.requires at-collect.ensures) ∙ c.in-Fine.is) (c.read_gates.ensures.value, c.read_gates.ensures.image_after) in record { value = all.0; image_after = all.1 }
+    (sym (c.resolve.ensures.by_index a.numbers.now ∙ same_outputs c.requires at-collect.ensures) ∙ c.in_ok-resolve.was) (c.read_gates.ensures.value, c.read_gates.ensures.image_after) in record { value = all.0; image_after = all.1 }
 
-pub returns-in-Refused : goal.returns-in-Refused
-returns-in-Refused c =
+pub returns-in_err-resolve : goal.returns-in_err-resolve
+returns-in_err-resolve c =
     let at-collect = c.collect-outputs in
     let a = c.args in
-    let ls = lines_from a.text.now a.starts.now a.lines.now a.n 0 in let all = stops (unknown_fault (defined ls) (listed outputs_key ls)) (gates_refusal ls (length a.image.now)) (model_length ls) _ _ (image_over ls a.image.now) a.image.now
-    (sym (same_outputs c.requires at-collect.ensures) ∙ sym (c.resolve.ensures.by_index a.numbers.now) ∙ c.in-Refused.is) in record { value = all.0; image_after = all.1 }
+    let ls = lines_from a.text.now a.starts.now a.lines.now a.n 0 in let all = stops (unknown_fault (defined ls) (listed outputs_key ls)) (gates_refusal ls (length a.image.now)) (model_length ls) _ (image_over ls a.image.now) a.image.now _
+    (sym (same_outputs c.requires at-collect.ensures) ∙ sym (c.resolve.ensures.by_index a.numbers.now) ∙ c.in_err-resolve.was) c.from_residual.ensures.1 in record { value = all.0; image_after = all.1 }

@@ -2,7 +2,7 @@
 use mathlib.Core.Path.{refl, ap}
 use lib.ListN.{length}
 use Rattle.blif.proofs.Same.{same_length, short, fits, over, placeable, in_order}
-use Rattle.blif.specs.declared.BlifRead.TheVariants.{Done as BlifDone}
+use Rattle.std.specs.Prelude.{Ok}
 use Rattle.blif.proofs.write_fitting.Goals as goal
 
 pub returns-then-image-needed : goal.returns-then-image-needed
@@ -16,4 +16,4 @@ write_image-requires c =
 pub returns : goal.returns
 returns c =
     let at-if1 = c.if-image-needed in
-    let a = c.args in rw (fits c.requires.resolved c.requires.placed (length a.image.now) at-if1.false) (record { value = ap BlifDone (same_length c.requires.resolved c.requires.placed); image_after = over c.requires.resolved c.requires.placed a.image.now _ at-if1.false c.write_image.ensures })
+    let a = c.args in rw (fits c.requires.resolved c.requires.placed (length a.image.now) at-if1.false) (record { value = ap Ok (same_length c.requires.resolved c.requires.placed); image_after = over c.requires.resolved c.requires.placed a.image.now _ at-if1.false c.write_image.ensures })

@@ -1,4 +1,5 @@
 -- `covers::cover_rows` meets its contract. Assumes nothing.
+use Rattle.model.proofs.Keys.{keys-differ, keys-alike}
 use Prim.Native.Nat.{ℕ}
 use mathlib.Core.Path.{refl, ap, sym, ◌∙◌}
 use native.Mathlib.Omega.{arith}
@@ -20,12 +21,12 @@ pub key_at-requires : goal.key_at-requires
 key_at-requires c =
     (omega (arith, c.requires.0.within, c.loop-k-test.true), c.requires.0.inside _ c.loop-k-test.true)
 
-pub returns-then-key_at-ne-COVER : goal.returns-then-key_at-ne-COVER
-returns-then-key_at-ne-COVER c =
+pub returns-then-ne : goal.returns-then-ne
+returns-then-ne c =
     let l = c.loop-k in
     let a = c.args in
     rows_end a.width l.rows _ _
-    (cover-over a.text.now a.starts.now a.lines.now a.n l.k (rest_at a.lines.now a.n l.k) c.loop-k-test.true refl (λ e. c.if-key_at-ne-COVER.true (c.key_at.ensures ∙ e)))
+    (cover-over a.text.now a.starts.now a.lines.now a.n l.k (rest_at a.lines.now a.n l.k) c.loop-k-test.true refl (λ e. keys-differ _ _ (sym c.ne.ensures ∙ c.if-ne.true) (c.key_at.ensures ∙ e)))
     l.invariant.1
 
 pub entry-requires : goal.entry-requires
@@ -66,7 +67,6 @@ loop-k-smaller c =
 
 pub loop-k-preserved : goal.loop-k-preserved
 loop-k-preserved c =
-    let at-if1 = c.if-key_at-ne-COVER in
     let at-loop-test = c.loop-k-test in
     let l = c.loop-k in
     let a = c.args in
@@ -74,7 +74,7 @@ loop-k-preserved c =
     ∙ ap (λ (w : List ℕ). table_of a.width (meets w)) (c.word.ensures ∙ ap (λ (i : ℕ). word_of (drop i a.text.now)) c.entry.ensures) in (
       omega (arith, at-loop-test.true, shorter a.text.now a.starts.now a.lines.now a.n l.k c.line_rest.result at-loop-test.true c.line_rest.ensures),
       rows-turn a.text.now a.starts.now a.lines.now a.n l.k c.line_rest.result at-loop-test.true c.line_rest.ensures a.width l.rows c.line_rows-rows.result _
-          (sym c.key_at.ensures ∙ at-if1.false) met l.invariant.1,
+          (sym c.key_at.ensures ∙ keys-alike _ _ (sym c.ne.ensures ∙ c.if-ne.false)) met l.invariant.1,
     )
 
 pub returns : goal.returns

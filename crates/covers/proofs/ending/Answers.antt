@@ -1,4 +1,5 @@
 -- `covers::ending` meets its contract. Assumes nothing.
+use Rattle.model.proofs.Keys.{keys-differ, keys-alike}
 use Prim.Native.Nat.{ℕ, ◌≤◌, ◌<◌}
 use mathlib.Core.Path.{◌≡◌, refl, ap, sym, ◌∙◌}
 use native.Mathlib.Omega.{arith}
@@ -27,11 +28,11 @@ key_at-requires c =
     let low = below a.from a.n c.requires.3 c.if-from-n.false in
     (omega (arith, c.requires.0.within), c.requires.0.inside _ low)
 
-pub returns-then-key_at-ne-COVER : goal.returns-then-key_at-ne-COVER
-returns-then-key_at-ne-COVER c =
+pub returns-then-ne : goal.returns-then-ne
+returns-then-ne c =
     let a = c.args in
     let low = below a.from a.n c.requires.3 c.if-from-n.false in
-    sym (ap ending_of (cover-over a.text.now a.starts.now a.lines.now a.n a.from (rest_at a.lines.now a.n a.from) low refl (λ e. c.if-key_at-ne-COVER.true (c.key_at.ensures ∙ e))))
+    sym (ap ending_of (cover-over a.text.now a.starts.now a.lines.now a.n a.from (rest_at a.lines.now a.n a.from) low refl (λ e. keys-differ _ _ (sym c.ne.ensures ∙ c.if-ne.true) (c.key_at.ensures ∙ e))))
 
 pub line_rest-requires : goal.line_rest-requires
 line_rest-requires c =
@@ -55,4 +56,4 @@ returns c =
     let a = c.args in
     let low = below a.from a.n c.requires.3 c.if-from-n.false in
     c.value_at.ensures
-    ∙ sym (ends-in a.text.now a.starts.now a.lines.now a.n a.from c.line_rest.result low c.line_rest.ensures (sym c.key_at.ensures ∙ c.if-key_at-ne-COVER.false))
+    ∙ sym (ends-in a.text.now a.starts.now a.lines.now a.n a.from c.line_rest.result low c.line_rest.ensures (sym c.key_at.ensures ∙ keys-alike _ _ (sym c.ne.ensures ∙ c.if-ne.false)))

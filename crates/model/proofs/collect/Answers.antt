@@ -1,4 +1,5 @@
 -- `model::collect` meets its contract. Assumes nothing.
+use Rattle.statements.specs.declared.Keyword.{Keyword}
 use Prim.Native.Nat.{ℕ, ◌+◌, ◌<◌}
 use mathlib.Core.Path.{◌≡◌, ap, ◌∙◌}
 use native.Mathlib.Omega.{arith}
@@ -38,7 +39,7 @@ enter-count-requires c =
     let a = c.args in
     let short = shorter a.text.now a.starts.now a.lines.now a.n l.k at-line-rest.result at-loop-test.true at-line-rest.ensures in
     let many : at-run-many.result ≡ run_many (key_at a.text.now a.starts.now l.k) a.wanted at-line-rest.result =
-    at-run-many.ensures ∙ ap (λ (x : ℕ). run_many x a.wanted at-line-rest.result) c.key_at.ensures in
+    at-run-many.ensures ∙ ap (λ (x : Keyword). run_many x a.wanted at-line-rest.result) c.key_at.ensures in
     let stays = run_inside a.text.now a.starts.now a.lines.now a.n l.k at-line-rest.result at-loop-test.true at-line-rest.ensures a.wanted in
     let room = roomy a.text.now a.starts.now a.lines.now a.n a.wanted _ _ a.from l.names l.numbers l.count l.k l.invariant.1 at-line-rest.result at-loop-test.true at-line-rest.ensures in record { many_in_bounds = (omega (arith, stays, many, at-run-start.ensures, c.requires.places.0.within), omega (arith, stays, many, at-run-start.ensures, c.requires.places.1)); many_in_bounds_2 = (omega (arith, room, many, c.requires.n_in_bounds, l.invariant.1.long), omega (arith, room, many, c.requires.n_in_bounds, c.requires.names_in_bounds, l.invariant.1.wide)) }
 
@@ -80,7 +81,7 @@ loop-k-preserved c =
     let a = c.args in
     let short = shorter a.text.now a.starts.now a.lines.now a.n l.k at-line-rest.result at-loop-test.true at-line-rest.ensures in
     let many : at-run-many.result ≡ run_many (key_at a.text.now a.starts.now l.k) a.wanted at-line-rest.result =
-    at-run-many.ensures ∙ ap (λ (x : ℕ). run_many x a.wanted at-line-rest.result) c.key_at.ensures in
+    at-run-many.ensures ∙ ap (λ (x : Keyword). run_many x a.wanted at-line-rest.result) c.key_at.ensures in
     let stays = run_inside a.text.now a.starts.now a.lines.now a.n l.k at-line-rest.result at-loop-test.true at-line-rest.ensures a.wanted in
     let places : (i : ℕ) → i < at-run-many.result → get_or a.starts.now (at-run-start.result + i) 0 < length a.text.now =
     λ i h. c.requires.places.0.inside (at-run-start.result + i) (omega (arith, stays, many, at-run-start.ensures)) in (

@@ -1,5 +1,5 @@
 -- `model::judge_count` meets its contract. Assumes nothing.
-use Prim.Native.Nat.{ℕ}
+use Rattle.statements.specs.declared.Keyword.{Keyword}
 use mathlib.Core.Path.{refl, ap, sym, ◌∙◌}
 use native.Mathlib.Omega.{arith}
 use Rattle.refusal.specs.Judgement.{refused}
@@ -35,7 +35,7 @@ returns-then-many-left c =
     let a = c.args in
     let short = shorter a.text.now a.starts.now a.lines.now a.n l.k at-line-rest.result at-loop-test.true at-line-rest.ensures in
     ap (refused TextModel) c.line.ensures
-    ∙ sym (refuse-here a.text.now a.starts.now a.lines.now a.n l.k at-line-rest.result at-loop-test.true at-line-rest.ensures a.wanted at-run-many.result (at-run-many.ensures ∙ ap (λ (x : ℕ). run_many x a.wanted at-line-rest.result) c.key_at.ensures) l.left c.if-many-left.true)
+    ∙ sym (refuse-here a.text.now a.starts.now a.lines.now a.n l.k at-line-rest.result at-loop-test.true at-line-rest.ensures a.wanted at-run-many.result (at-run-many.ensures ∙ ap (λ (x : Keyword). run_many x a.wanted at-line-rest.result) c.key_at.ensures) l.left c.if-many-left.true)
     ∙ l.invariant.2
 
 pub overflow_add-k : goal.overflow_add-k
@@ -74,7 +74,7 @@ loop-k-preserved c =
     let short = shorter a.text.now a.starts.now a.lines.now a.n l.k at-line-rest.result at-loop-test.true at-line-rest.ensures in (
       omega (arith, short, at-loop-test.true),
       omega arith,
-      sym (refuse-later a.text.now a.starts.now a.lines.now a.n l.k at-line-rest.result at-loop-test.true at-line-rest.ensures a.wanted c.run_many-many.result (c.run_many-many.ensures ∙ ap (λ (x : ℕ). run_many x a.wanted at-line-rest.result) c.key_at.ensures) l.left c.if-many-left.false) ∙ l.invariant.2,
+      sym (refuse-later a.text.now a.starts.now a.lines.now a.n l.k at-line-rest.result at-loop-test.true at-line-rest.ensures a.wanted c.run_many-many.result (c.run_many-many.ensures ∙ ap (λ (x : Keyword). run_many x a.wanted at-line-rest.result) c.key_at.ensures) l.left c.if-many-left.false) ∙ l.invariant.2,
     )
 
 pub returns : goal.returns

@@ -3,12 +3,13 @@ use Prim.Native.Nat.{ℕ}
 use mathlib.Core.Path.{◌≡◌, refl, ap, sym, ◌∙◌}
 use native.Mathlib.Omega.{arith}
 use lib.ListN.{length, get_or, length-set}
-use Rattle.refusal.proofs.Laws.{lowest-answer, refused-not-fine}
+use Rattle.refusal.proofs.Laws.{lowest-answer}
 use Rattle.texts.specs.Words.{held}
 use Rattle.model.specs.Model.{sources}
 use Rattle.model.specs.Tables.{gate_from}
 use Rattle.resolve.specs.Names.{unknown_fault}
 use Rattle.resolve.proofs.Gates.{begin, turn}
+use Rattle.std.proofs.lemmas.Result.{err_from_is_err_and}
 use Rattle.resolve.proofs.resolve_gates.Goals as goal
 
 pub loop-j-init : goal.loop-j-init
@@ -30,7 +31,7 @@ loop-j-preserved c =
     let l = c.loop-j in
     let a = c.args in
     let headed = c.requires.gates_le_most_gates.2 in
-    let told = c.in-Fine.is in
+    let told = c.in_ok-resolve_gate.was in
     let e = rw c.entry.ensures at c.resolve_gate.ensures in (
       omega arith,
       turn a.text.now a.names.now a.many a.starts.now a.lines.now a.n a.heads.now l.pins l.counts l.j l.invariant.1
@@ -40,17 +41,16 @@ loop-j-preserved c =
       ap length e.counts_after ∙ length-set l.counts l.j _ ∙ l.invariant.3,
     )
 
-pub returns-in-Refused : goal.returns-in-Refused
-returns-in-Refused c =
+pub returns-in_err-resolve_gate-clause-by_index : goal.returns-in_err-resolve_gate-clause-by_index
+returns-in_err-resolve_gate-clause-by_index c =
     let l = c.loop-j in
     let a = c.args in
-    let told = c.in-Refused.is in
-    let e = rw c.entry.ensures at c.resolve_gate.ensures.by_index in record {
-      by_index = λ ls. lowest-answer (λ (j : ℕ). unknown_fault (held a.text.now a.names.now ls 0 a.many)
-          (sources (gate_from a.text.now a.starts.now a.lines.now a.n (get_or a.heads.now j 0))))
-          a.gates l.j _ _ c.loop-j-test.true (l.invariant.1.fine ls) (sym (e ls) ∙ told);
-      sources = refused-not-fine _ _;
-    }
+    let told = c.in_err-resolve_gate.was in
+    let e = rw c.entry.ensures at c.resolve_gate.ensures.by_index in
+    let p = err_from_is_err_and c.from_residual.result c.from_residual.ensures.1 in rw (p.1, p.2)
+    (λ ls. lowest-answer (λ (j : ℕ). unknown_fault (held a.text.now a.names.now ls 0 a.many)
+    (sources (gate_from a.text.now a.starts.now a.lines.now a.n (get_or a.heads.now j 0))))
+    a.gates l.j _ _ c.loop-j-test.true (l.invariant.1.fine ls) (sym (e ls) ∙ told))
 
 pub returns : goal.returns
 returns c =
