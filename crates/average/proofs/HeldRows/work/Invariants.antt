@@ -4,7 +4,7 @@ use Rattle.area.specs.Layout.{inputs, gates}
 use Rattle.plan.specs.Plan.{IsLive}
 use Rattle.rows.specs.Rows.{row_length}
 use Rattle.average.specs.Blocks.{RowsKept, Block, HeldFrom}
-use Rattle.average.proofs.work_rows.Given as goal
+use Rattle.average.proofs.HeldRows.work.Given as goal
 
 -- what is known when a gate has been reached
 pub record Reached (ws unseen rows : List ℕ) (held number gate : ℕ) : Type 0 where
@@ -15,7 +15,7 @@ pub record Reached (ws unseen rows : List ℕ) (held number gate : ℕ) : Type 0
   pub rest : HeldFrom ws unseen rows held number gate
 
 abbrev pub invariant-loop-gate : goal.invariant-loop-gate
-invariant-loop-gate l = Reached l.area l.unseen l.rows l.held l.number l.gate
+invariant-loop-gate l = Reached l.walk.area.now l.walk.unseen.now l.self.rows l.held l.number l.gate
 
 abbrev pub decreases-loop-gate : goal.decreases-loop-gate
 decreases-loop-gate l = l.count - l.gate
