@@ -249,35 +249,34 @@ fn walk_block<S: RowSink>(held: &mut HeldRows, sink: &mut S, walk: &Walk, block:
 
 // Not inlined: its rows are not on the stack while `plan::next_live` works.
 #[inline(never)]
-fn walk_blocks<S: RowSink>(sink: &mut S, walk: &Walk)
-    requires planned { Planned walk.now.area.now walk.now.next.now walk.now.unseen.now }
-    requires done { S.Done sink.old walk.now.area.now 0 }
-    ensures { S.Done sink.new walk.now.area.now (walked_to walk.now.area.now) × (S.fixed sink.new ≡ S.fixed sink.old) }
+fn walk_blocks<S: RowSink>(
+    sink: &mut S,
+    area: &[u32],
+    next: &[usize; area::MOST_SOURCES],
+    unseen: &[usize; area::MOST_SOURCES],
+)
+    requires planned { Planned area.now next.now unseen.now }
+    requires done { S.Done sink.old area.now 0 }
+    ensures { S.Done sink.new area.now (walked_to area.now) × (S.fixed sink.new ≡ S.fixed sink.old) }
 {
-    let blocks = pattern_count(area::inputs(walk.area)).div_ceil(signals::LANES);
+    let walk = Walk { area, next, unseen };
+    let blocks = pattern_count(area::inputs(area)).div_ceil(signals::LANES);
     let mut held = HeldRows {
         rows: [0u32; rows::ROW_WORDS],
         number: NO_ROW,
     };
     for block in 0..blocks {
-        walk_block(&mut held, sink, walk, block);
+        walk_block(&mut held, sink, &walk, block);
     }
 }
 
 // The walk over all patterns: the sink takes or skips their rows in order, to the end of the last block. The area is only read: its words of figures may
-// be those of any pattern. Both arrays are lent where they are made, each in one place on the stack.
+// be those of any pattern. Both arrays are lent as arguments where they are made, each in one place on the stack; in the literal of a `Walk` it would be two.
 pub fn walk_patterns<S: RowSink>(sink: &mut S, area: &[u32])
     requires { Workable area.now × S.Done sink.old area.now 0 }
     ensures { S.Done sink.new area.now (walked_to area.now) × (S.fixed sink.new ≡ S.fixed sink.old) }
 {
-    walk_blocks(
-        sink,
-        &Walk {
-            area,
-            next: &plan::next_live(area),
-            unseen: &plan::unseen_bits(area),
-        },
-    );
+    walk_blocks(sink, area, &plan::next_live(area), &plan::unseen_bits(area));
 }
 
 // The sum over the patterns of their reliabilities, each times its weight.

@@ -10,7 +10,7 @@ pub loop-block-init : goal.loop-block-init
 loop-block-init g c = (
   (
     record { long = length-replicate {A = ℕ} row_words 0; sure = λ t l input few. zeros-at row_words (row_length * t + l) },
-    held_none c.args.walk.now.area.now c.args.walk.now.unseen.now (replicate row_words 0) c.requires.planned.0.net c.requires.planned.2,
+    held_none c.args.area.now c.args.unseen.now (replicate row_words 0) c.requires.planned.0.net c.requires.planned.2,
   ),
   c.requires.done,
   refl,

@@ -5,6 +5,6 @@ use Rattle.average.proofs.walk_blocks.Given as goal
 
 abbrev pub invariant-loop-block : goal.invariant-loop-block
 invariant-loop-block g l =
-    RowsFor l.walk.area.now l.walk.unseen.now l.held.rows l.held.number
-    × g.S.RowSink.Done l.sink l.walk.area.now (lane_count * l.block)
+    RowsFor l.area l.unseen l.held.rows l.held.number
+    × g.S.RowSink.Done l.sink l.area (lane_count * l.block)
     × (g.S.RowSink.fixed l.sink ≡ g.S.RowSink.fixed l.initial.sink)
