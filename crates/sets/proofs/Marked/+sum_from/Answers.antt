@@ -18,8 +18,8 @@ use Rattle.sets.specs.Branches.{Marks, NextMarked, Stands, sum_begun, SameBefore
 use Rattle.sets.proofs.Same as same
 use Rattle.sets.proofs.Supposed as both
 use Rattle.sets.proofs.Worked.{stands-there}
-use Rattle.sets.proofs.+sum_from.Goals.{After-figure-own}
-use Rattle.sets.proofs.+sum_from.Goals as goal
+use Rattle.sets.proofs.Marked.+sum_from.Goals.{After-figure-own}
+use Rattle.sets.proofs.Marked.+sum_from.Goals as goal
 
 -- the gates are worked out up to gate g
 record Walk (ws marks vs : List ℕ) (b g begun met product : ℕ) : Type 0 where
@@ -182,7 +182,7 @@ output_product-requires t c =
 pub returns-then-gate-gates-clause-value : goal.returns-then-gate-gates-clause-value
 returns-then-gate-gates-clause-value t c =
     let walk = walk-there c.requires.workable c.requires.from_bound c.work_to_shared-gate.ensures.worked_to in
-    c.output_product.ensures ∙ none-left _ _ _ _ _ _ _ _ walk (c.if-gate-gates.true ∙ c.gates.ensures)
+    c.from.ensures ∙ c.output_product.ensures ∙ none-left _ _ _ _ _ _ _ _ walk (c.if-gate-gates.true ∙ c.gates.ensures)
 
 -- one is
 module _ (t : ℕ) (c : After-figure-own t) where
@@ -195,7 +195,7 @@ module _ (t : ℕ) (c : After-figure-own t) where
   abbrev g : ℕ
   g = c.work_to_shared-gate.result
 
-  walk-here : Walk ws c.args.marks.now vs c.args.from g c.args.begun c.args.met c.args.product
+  walk-here : Walk ws c.args.self.now.marks.now vs c.args.branch.from g c.args.branch.begun c.args.branch.met c.args.branch.product
   walk-here = walk-there c.requires.workable c.requires.from_bound c.work_to_shared-gate.ensures.worked_to
 
   within-net : g < gates ws
@@ -203,49 +203,49 @@ module _ (t : ℕ) (c : After-figure-own t) where
       let other : g ≡ gates vs → ⊥ = λ e. c.if-gate-gates.false (e ∙ sym c.gates.ensures) in
       lt_of_le-ne walk-here.within (λ e. other (e ∙ sym (held _ _ _ _ _ _ _ _ walk-here)))
 
-  at-shared : SharedAt ws c.args.marks.now vs g
+  at-shared : SharedAt ws c.args.self.now.marks.now vs g
   at-shared = c.work_to_shared-gate.ensures.shared_at within-net
 
-  few-met : c.args.met < most_shared
+  few-met : c.args.branch.met < most_shared
   few-met = met_small _ _ _ _ _ _ _ _ walk-here within-net at-shared
 
   half : c.figure-own.result / 2 ≤ units_in_one
   half = rw c.figure-own.ensures (figure_fits _ _ _ _ _ _ _ _ walk-here within-net at-shared)
 
-  shifted : 1 * 2 ^ c.args.met % 2 ^ 64 ≡ 2 ^ c.args.met
+  shifted : 1 * 2 ^ c.args.branch.met % 2 ^ 64 ≡ 2 ^ c.args.branch.met
   shifted = shift _ _ _ _ _ _ _ _ walk-here within-net at-shared
 
 -- it is supposed right
-pub output_step-as_right-requires : goal.output_step-as_right-requires
-output_step-as_right-requires t c =
-    let e = (goal.at.output_step-as_right-requires t c).After-figure-own in
+pub output_step-requires : goal.output_step-requires
+output_step-requires t c =
+    let e = (goal.at.output_step-requires t c).After-figure-own in
     (fits _ _ _ _ _ _ _ _ (walk-here t e), half t e)
 
-pub overflow_add-met : goal.overflow_add-met
-overflow_add-met t c = omega (arith, few-met t (goal.at.overflow_add-met t c).After-figure-own)
+pub overflow_add-as_right-2 : goal.overflow_add-as_right-2
+overflow_add-as_right-2 t c = omega (arith, few-met t (goal.at.overflow_add-as_right-2 t c).After-figure-own)
 
 pub sum_from-right-requires : goal.sum_from-right-requires
 sum_from-right-requires t c =
     let e = (goal.at.sum_from-right-requires t c).After-figure-own in
     rw c.store_figure.ensures
-    (right_asked _ _ _ _ _ _ _ _ (walk-here t e) (within-net t e) (at-shared t e) c.figure-own.result c.output_step-as_right.result c.figure-own.ensures
-    c.output_step-as_right.ensures t c.args.next.now c.decreases c.requires.next_marked)
+    (right_asked _ _ _ _ _ _ _ _ (walk-here t e) (within-net t e) (at-shared t e) c.figure-own.result c.output_step.result c.figure-own.ensures
+    c.output_step.ensures t c.args.self.now.next.now c.decreases c.requires.next_marked)
 
 -- it is supposed wrong
-pub output_step-as_wrong-requires : goal.output_step-as_wrong-requires
-output_step-as_wrong-requires t c =
-    let e = (goal.at.output_step-as_wrong-requires t c).After-figure-own in
+pub output_step-requires-2 : goal.output_step-requires-2
+output_step-requires-2 t c =
+    let e = (goal.at.output_step-requires-2 t c).After-figure-own in
     (fits _ _ _ _ _ _ _ _ (walk-here t e), omega arith)
 
-pub overflow_add-met-2 : goal.overflow_add-met-2
-overflow_add-met-2 t c = omega (arith, few-met t (goal.at.overflow_add-met-2 t c).After-figure-own)
+pub overflow_add-as_wrong-2 : goal.overflow_add-as_wrong-2
+overflow_add-as_wrong-2 t c = omega (arith, few-met t (goal.at.overflow_add-as_wrong-2 t c).After-figure-own)
 
-pub overflow_shl-met : goal.overflow_shl-met
-overflow_shl-met t c = omega (arith, few-met t (goal.at.overflow_shl-met t c).After-figure-own)
+pub overflow_shl-as_wrong : goal.overflow_shl-as_wrong
+overflow_shl-as_wrong t c = omega (arith, few-met t (goal.at.overflow_shl-as_wrong t c).After-figure-own)
 
-pub overflow_add-begun : goal.overflow_add-begun
-overflow_add-begun t c =
-    let e = (goal.at.overflow_add-begun t c).After-figure-own in
+pub overflow_add-as_wrong-3 : goal.overflow_add-as_wrong-3
+overflow_add-as_wrong-3 t c =
+    let e = (goal.at.overflow_add-as_wrong-3 t c).After-figure-own in
     omega (arith, shifted t e, begun_small _ _ _ _ _ _ _ _ (walk-here t e) (within-net t e) (at-shared t e))
 
 pub sum_from-requires : goal.sum_from-requires
@@ -253,8 +253,8 @@ sum_from-requires t c =
     let e = (goal.at.sum_from-requires t c).After-figure-own in
     let after = rw c.store_figure.ensures at c.sum_from-right.ensures.same_before in
     rw (c.store_figure-2.ensures, shifted t e)
-    (wrong_asked _ _ _ _ _ _ _ _ (walk-here t e) (within-net t e) (at-shared t e) c.figure-own.result c.output_step-as_right.result c.figure-own.ensures
-    c.output_step-as_right.ensures c.sum_from-right.new.area after c.output_step-as_wrong.result c.output_step-as_wrong.ensures t c.args.next.now c.decreases
+    (wrong_asked _ _ _ _ _ _ _ _ (walk-here t e) (within-net t e) (at-shared t e) c.figure-own.result c.output_step.result c.figure-own.ensures
+    c.output_step.ensures c.sum_from-right.new.area after c.output_step-2.result c.output_step-2.ensures t c.args.self.now.next.now c.decreases
     c.requires.next_marked)
 
 -- both together
@@ -263,26 +263,26 @@ overflow_add-result t c =
     let e = (goal.at.overflow_add-result t c).After-figure-own in
     let right = rw c.store_figure.ensures at c.sum_from-right.ensures in
     let wrong = rw (c.store_figure-2.ensures, shifted t e) at c.sum_from.ensures in
-    let all : c.sum_from-right.result + c.sum_from.result ≡ sum_begun c.args.area.now c.args.begun c.args.met =
-    added _ _ _ _ _ _ _ _ (walk-here t e) (within-net t e) (at-shared t e) c.figure-own.result c.output_step-as_right.result c.figure-own.ensures
-    c.output_step-as_right.ensures c.sum_from-right.new.area right.same_before c.output_step-as_wrong.result c.output_step-as_wrong.ensures _ _ right.value
+    let all : c.sum_from-right.result + c.sum_from.result ≡ sum_begun c.args.area.now c.args.branch.begun c.args.branch.met =
+    added _ _ _ _ _ _ _ _ (walk-here t e) (within-net t e) (at-shared t e) c.figure-own.result c.output_step.result c.figure-own.ensures
+    c.output_step.ensures c.sum_from-right.new.area right.same_before c.output_step-2.result c.output_step-2.ensures _ _ right.value
     wrong.value
     in
-    omega (arith, all, both.sum-most c.args.area.now c.args.begun c.args.met c.requires.workable.0 c.requires.workable.2)
+    omega (arith, all, both.sum-most c.args.area.now c.args.branch.begun c.args.branch.met c.requires.workable.0 c.requires.workable.2)
 
 pub returns-clause-value : goal.returns-clause-value
 returns-clause-value t c =
     let e = (goal.at.returns-clause-value t c).After-figure-own in
     let right = rw c.store_figure.ensures at c.sum_from-right.ensures in
     let wrong = rw (c.store_figure-2.ensures, shifted t e) at c.sum_from.ensures in
-    added _ _ _ _ _ _ _ _ (walk-here t e) (within-net t e) (at-shared t e) c.figure-own.result c.output_step-as_right.result c.figure-own.ensures
-    c.output_step-as_right.ensures c.sum_from-right.new.area right.same_before c.output_step-as_wrong.result c.output_step-as_wrong.ensures _ _ right.value
+    added _ _ _ _ _ _ _ _ (walk-here t e) (within-net t e) (at-shared t e) c.figure-own.result c.output_step.result c.figure-own.ensures
+    c.output_step.ensures c.sum_from-right.new.area right.same_before c.output_step-2.result c.output_step-2.ensures _ _ right.value
     wrong.value
 
 pub returns-clause-same_before : goal.returns-clause-same_before
 returns-clause-same_before t c =
     let e = (goal.at.returns-clause-same_before t c).After-figure-own in
     let after = rw c.store_figure.ensures at c.sum_from-right.ensures.same_before in
-    left_same _ _ _ _ _ _ _ _ (walk-here t e) (within-net t e) (at-shared t e) c.figure-own.result c.output_step-as_right.result c.figure-own.ensures
-    c.output_step-as_right.ensures c.sum_from-right.new.area after c.output_step-as_wrong.result c.output_step-as_wrong.ensures _
+    left_same _ _ _ _ _ _ _ _ (walk-here t e) (within-net t e) (at-shared t e) c.figure-own.result c.output_step.result c.figure-own.ensures
+    c.output_step.ensures c.sum_from-right.new.area after c.output_step-2.result c.output_step-2.ensures _
     (rw c.store_figure-2.ensures at c.sum_from.ensures.same_before)
