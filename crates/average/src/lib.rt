@@ -272,6 +272,8 @@ fn walk_blocks<S: RowSink>(
 
 // The walk over all patterns: the sink takes or skips their rows in order, to the end of the last block. The area is only read: its words of figures may
 // be those of any pattern. Both arrays are lent as arguments where they are made, each in one place on the stack; in the literal of a `Walk` it would be two.
+// Not inlined, since both would be copied where this is a part of its caller.
+#[inline(never)]
 pub fn walk_patterns<S: RowSink>(sink: &mut S, area: &[u32])
     requires { Workable area.now × S.Done sink.old area.now 0 }
     ensures { S.Done sink.new area.now (walked_to area.now) × (S.fixed sink.new ≡ S.fixed sink.old) }
