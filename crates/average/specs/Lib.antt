@@ -1,2 +1,3 @@
 pub mod WeightedSum
 pub mod Blocks
+pub mod Walked

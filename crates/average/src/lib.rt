@@ -1,7 +1,7 @@
 // The walk over all patterns of the call "average", on an area that can be worked out, and the test of the weights, refusal 12.
 #![tactic(auto)]
 
-ghost use Rattle.std.specs.Prelude.{◌≡◌, ℕ, ◌+◌, ◌*◌, ◌/◌, ◌%◌, ◌^◌, ◌<◌, ◌≤◌, eqb, length, get_or};
+ghost use Rattle.std.specs.Prelude.{◌≡◌, true, false, List, ℕ, ◌+◌, ◌*◌, ◌/◌, ◌%◌, ◌^◌, ◌<◌, ◌≤◌, eqb, length, get_or};
 ghost use Rattle.lists.specs.Lists.{sum_below, all_zero};
 ghost use Rattle.refusal.specs.Judgement.{Fine, lowest};
 ghost use Rattle.rounding.specs.Rounding.{units_in_one};
@@ -13,9 +13,10 @@ ghost use Rattle.rows.specs.Rows.{row_length, EachEntry, RowFits};
 ghost use Rattle.work.specs.Work.{work_all};
 ghost use Rattle.calls.specs.Judgements.{weights_judgement, WeightsFit};
 ghost use Rattle.calls.specs.Calls.{average_of};
-ghost use Rattle.average.specs.WeightedSum.{weighted_to, BlockAdds};
-ghost use Rattle.plan.specs.Plan.{row_bits, NextLive, Unseen};
-ghost use Rattle.average.specs.Blocks.{row_count, LiveWords, ValuesFrom, RowsKept, RowsHeld, row_word, Block, OutputsFit};
+ghost use Rattle.average.specs.WeightedSum.{weighted_to};
+ghost use Rattle.plan.specs.Plan.{row_bits, NextLive};
+ghost use Rattle.average.specs.Blocks.{row_count, LiveWords, ValuesFrom, row_word, Block, OutputsFit};
+ghost use Rattle.average.specs.Walked.{Planned, RowsFor, walked_to, RowRight};
 
 use refusal::{Cause, Refusal};
 
@@ -33,14 +34,7 @@ pub fn pattern_count(inputs: usize) -> usize
 fn all_zero(weights: &[u32]) -> bool
     ensures { result ≡ all_zero weights.now }
 {
-    let mut q = 0;
-    while q < weights.len() {
-        if weights[q] != 0 {
-            return false;
-        }
-        q += 1;
-    }
-    true
+    weights.iter().all(|weight| *weight == 0)
 }
 
 // Refusal 12 in its order: the length, then the lowest weight that is too large, then no weight at all.
@@ -69,10 +63,8 @@ fn total_weight(weights: &[u32]) -> u64
     ensures { result ≡ sum_below (length weights.now) (λ q. get_or weights.now q 0) }
 {
     let mut total = 0;
-    let mut q = 0;
-    while q < weights.len() {
-        total += weights[q] as u64;
-        q += 1;
+    for weight in weights {
+        total += u64::from(*weight);
     }
     total
 }
@@ -83,54 +75,26 @@ pub fn reliability_row(rows: &[u32; rows::ROW_WORDS], area: &[u32]) -> [u32; row
     ensures each_entry { EachEntry result (λ l. product_from (row_word rows.now l) units_in_one (layout.output_words area.now)) }
     ensures row_fits { RowFits result }
 {
-    let count = area::outputs(area);
     let mut row = [rounding::ONE; rows::LANES];
-    let mut k = 0;
-    while k < count {
+    for k in 0..area::outputs(area) {
         let source = area::index(area::output(area, k));
         let next = rows::output_row(row, rows, source);
         row = next;
-        k += 1;
     }
     row
 }
 
-// The weight of a pattern, 0 past the last.
-fn weight_at(weights: &[u32], q: usize) -> u64
-    ensures { result ≡ get_or weights.now q 0 }
+// The patterns of a word from `first` on; after the last comes pattern 0 again.
+pub fn block_patterns(inputs: usize, first: usize) -> [u32; signals::LANES]
+    requires { (inputs ≤ layout.most_inputs) × (first ≤ layout.most_patterns) }
+    ensures result_len { length result ≡ lane_count }
+    ensures by_index { (l : ℕ) → l < lane_count → get_or result l 0 ≡ (first + l) % 2 ^ inputs }
 {
-    if q < weights.len() {
-        weights[q] as u64
-    } else {
-        0
+    let mut patterns = [0u32; signals::LANES];
+    for (l, pattern) in patterns.iter_mut().enumerate() {
+        *pattern = ((first + l) % (1 << inputs)) as u32;
     }
-}
-
-// A row of reliabilities, each times the weight of its pattern, added up.
-fn row_sum(row: [u32; rows::LANES], weights: &[u32], start: usize) -> u64
-    requires row_fits { RowFits row × (start ≤ 2 * layout.most_patterns) }
-    requires by_index { (q : ℕ) → q < length weights.now → get_or weights.now q 0 ≤ layout.largest_weight }
-    ensures { result ≡ sum_below row_length (λ l. get_or weights.now (start + l) 0 * get_or row l 0) }
-{
-    let mut sum = 0;
-    let mut l = 0;
-    while l < rows::LANES {
-        sum += weight_at(weights, start + l) * row[l] as u64;
-        l += 1;
-    }
-    sum
-}
-
-// Where so many patterns from `first` on end: the last may be fewer.
-fn block_end(first: usize, size: usize, patterns: usize) -> usize
-    requires { (first ≤ patterns) × (patterns ≤ layout.most_patterns) × (size ≤ layout.most_patterns) }
-    ensures { (first ≤ result) × (result ≤ patterns) × (result < patterns → result ≡ first + size) }
-{
-    if first + size < patterns {
-        first + size
-    } else {
-        patterns
-    }
+    patterns
 }
 
 // A source does not tell two rows apart: their numbers differ at most in bits that it does not see.
@@ -141,198 +105,228 @@ fn same_row(unseen: &[usize; area::MOST_SOURCES], source: usize, held: usize, nu
     held >> unseen[source] == number >> unseen[source]
 }
 
-// The rows of all live gates for the row of patterns with this number, in order; no live gate or output reads a dead gate. The rows have been worked out
-// for row `held`, and a gate that does not tell it from this one keeps its own.
-pub fn work_rows(
-    rows: &mut [u32; rows::ROW_WORDS],
+// What a walk over all patterns of an area knows beforehand: from each gate on the lowest live one, and the bits of a row's number that each source
+// does not see.
+#[derive(Clone, Copy)]
+pub struct Walk<'a> {
+    pub area: &'a [u32],
+    pub next: &'a [usize; area::MOST_SOURCES],
+    pub unseen: &'a [usize; area::MOST_SOURCES],
+}
+
+impl Walk<'_> {
+    // The right values of the inputs and of the live gates under 64 patterns. Not inlined: its array is on the stack only while it works.
+    #[inline(never)]
+    pub fn live_words(&self, patterns: &[u32]) -> [u64; area::MOST_SOURCES]
+        requires { NetSound self.now.area.now × NextLive self.now.area.now self.now.next.now 0 × (length patterns.now ≤ lane_count) }
+        ensures { LiveWords self.now.area.now patterns.now result (layout.gates self.now.area.now) }
+    {
+        let count = area::gates(self.area);
+        let mut words = [0u64; area::MOST_SOURCES];
+        signals::write_inputs(&mut words, patterns, area::inputs(self.area));
+        let mut gate = self.next[0];
+        while gate < count {
+            signals::work_word(&mut words, self.area, gate);
+            gate = self.next[gate + 1];
+        }
+        words
+    }
+}
+
+// The rows of all sources, and the number of the row of patterns that they have been worked out for.
+#[derive(Drop)]
+pub struct HeldRows {
+    pub rows: [u32; rows::ROW_WORDS],
+    pub number: usize,
+}
+
+impl HeldRows {
+    // The rows of all live gates for the row of patterns with this number, in order; no live gate or output reads a dead gate. A gate that does not
+    // tell the row held so far from this one keeps its own.
+    pub fn work(&mut self, walk: &Walk, words: &[u64; area::MOST_SOURCES], number: usize)
+        requires planned { Planned walk.now.area.now walk.now.next.now walk.now.unseen.now }
+        requires values_from { ValuesFrom walk.now.area.now words.now (row_length * number) × (number < row_count) }
+        requires rows_kept { RowsFor walk.now.area.now walk.now.unseen.now self.old.rows self.old.number }
+        ensures block { Block walk.now.area.now self.new.rows (row_length * number) (layout.gates walk.now.area.now) }
+        ensures rows_kept_2 { RowsFor walk.now.area.now walk.now.unseen.now self.new.rows self.new.number }
+    {
+        let inputs = area::inputs(walk.area);
+        let count = area::gates(walk.area);
+        let shift = rows::LANES * number % signals::LANES;
+        let held = self.number;
+        let mut gate = walk.next[0];
+        while gate < count {
+            if !same_row(walk.unseen, inputs + gate, held, number) {
+                folds::work_row(&mut self.rows, words, walk.area, gate, shift);
+            }
+            gate = walk.next[gate + 1];
+        }
+        self.number = number;
+    }
+}
+
+// What takes the reliabilities under the patterns of an area, row after row.
+pub trait RowSink {
+    // the patterns below so many are done, on an area of these words
+    ghost Done: { Self → List ℕ → ℕ → Type 0 };
+
+    // what no row changes
+    ghost fixed: { Self → List ℕ };
+
+    // Whether so many patterns from `start` on are done without their reliabilities.
+    fn skips(&self, area: &[u32], start: usize, many: usize) -> bool
+        requires { Workable area.now × Done self.now area.now start × (start + many ≤ layout.most_patterns) }
+        ensures done { result ≡ true → Done self.now area.now (start + many) }
+        ensures inside { result ≡ false → start < 2 ^ layout.inputs area.now };
+
+    // The row whose first pattern is `start`.
+    fn take(&mut self, area: &[u32], start: usize, row: [u32; rows::LANES])
+        requires done { Workable area.now × Done self.old area.now start }
+        requires inside { (start < 2 ^ layout.inputs area.now) × (start + row_length ≤ layout.most_patterns) }
+        requires right { RowRight area.now start row × RowFits row }
+        ensures done_2 { Done self.new area.now (start + row_length) }
+        ensures fixed_2 { fixed self.new ≡ fixed self.old };
+}
+
+// The row with this number, worked out unless the sink skips it.
+fn walk_row<S: RowSink>(
+    held: &mut HeldRows,
+    sink: &mut S,
+    walk: &Walk,
     words: &[u64; area::MOST_SOURCES],
-    area: &[u32],
-    next: &[usize; area::MOST_SOURCES],
-    unseen: &[usize; area::MOST_SOURCES],
-    held: usize,
     number: usize,
 )
-    requires workable { Workable area.now × NextLive area.now next.now 0 × Unseen area.now unseen.now (layout.gates area.now) }
-    requires values_from { ValuesFrom area.now words.now (row_length * number) × (number < row_count) }
-    requires rows_kept { RowsKept area.now rows.old × RowsHeld area.now unseen.now rows.old held }
-    ensures block { Block area.now rows.new (row_length * number) (layout.gates area.now) }
-    ensures rows_kept_2 { RowsKept area.now rows.new }
-{
-    let inputs = area::inputs(area);
-    let count = area::gates(area);
-    let shift = rows::LANES * number % signals::LANES;
-    let mut gate = next[0];
-    while gate < count {
-        if !same_row(unseen, inputs + gate, held, number) {
-            folds::work_row(rows, words, area, gate, shift);
-        }
-        gate = next[gate + 1];
-    }
-}
-
-// What the row with this number adds to the weighted sum, worked out unless none of its patterns has a weight; `held` then becomes its number.
-fn weighted_row(
-    rows: &mut [u32; rows::ROW_WORDS],
-    held: &mut usize,
-    words: &[u64; area::MOST_SOURCES],
-    area: &[u32],
-    next: &[usize; area::MOST_SOURCES],
-    unseen: &[usize; area::MOST_SOURCES],
-    number: usize,
-    weights: &[u32],
-) -> u64
-    requires workable { Workable area.now × NextLive area.now next.now 0 × Unseen area.now unseen.now (layout.gates area.now) }
-    requires values_from { ValuesFrom area.now words.now (row_length * number) × (number ≤ row_count) }
-    requires rows_kept { RowsKept area.now rows.old × RowsHeld area.now unseen.now rows.old held.old }
-    requires weights_fit { WeightsFit (layout.inputs area.now) weights.now }
-    ensures block_adds { BlockAdds area.now weights.now (row_length * number) row_length result }
-    ensures rows_kept_2 { RowsKept area.now rows.new
-        × RowsHeld area.now unseen.now rows.new held.new }
+    requires planned { Planned walk.now.area.now walk.now.next.now walk.now.unseen.now }
+    requires values_from { ValuesFrom walk.now.area.now words.now (row_length * number) × (number < row_count) }
+    requires rows_kept { RowsFor walk.now.area.now walk.now.unseen.now held.old.rows held.old.number }
+    requires done { S.Done sink.old walk.now.area.now (row_length * number) }
+    ensures done_2 { S.Done sink.new walk.now.area.now (row_length * (number + 1)) × (S.fixed sink.new ≡ S.fixed sink.old) }
+    ensures rows_kept_2 { RowsFor walk.now.area.now walk.now.unseen.now held.new.rows held.new.number }
 {
     let start = rows::LANES * number;
-    if weights.len() <= start {
-        return 0;
+    if sink.skips(walk.area, start, rows::LANES) {
+        return;
     }
-    let end = block_end(start, rows::LANES, weights.len());
-    if all_zero(&weights[start..end]) {
-        return 0;
-    }
-    work_rows(rows, words, area, next, unseen, *held, number);
-    *held = number;
-    row_sum(reliability_row(rows, area), weights, start)
+    held.work(walk, words, number);
+    sink.take(walk.area, start, reliability_row(&held.rows, walk.area));
 }
 
-// The patterns of a word from `first` on; after the last comes pattern 0 again.
-pub fn block_patterns(inputs: usize, first: usize) -> [u32; signals::LANES]
-    requires { (inputs ≤ layout.most_inputs) × (first ≤ layout.most_patterns) }
-    ensures result_len { length result ≡ lane_count }
-    ensures by_index { (l : ℕ) → l < lane_count → get_or result l 0 ≡ (first + l) % 2 ^ inputs }
-{
-    let mut patterns = [0u32; signals::LANES];
-    let mut l = 0;
-    while l < signals::LANES {
-        patterns[l] = ((first + l) % (1 << inputs)) as u32;
-        l += 1;
-    }
-    patterns
-}
-
-// The right values of the inputs and of the live gates under 64 patterns. Not inlined: its array is on the stack only while it works.
-#[inline(never)]
-pub fn live_words(
-    area: &[u32],
-    next: &[usize; area::MOST_SOURCES],
-    patterns: &[u32],
-) -> [u64; area::MOST_SOURCES]
-    requires { NetSound area.now × NextLive area.now next.now 0 × (length patterns.now ≤ lane_count) }
-    ensures { LiveWords area.now patterns.now result (layout.gates area.now) }
-{
-    let count = area::gates(area);
-    let mut words = [0u64; area::MOST_SOURCES];
-    signals::write_inputs(&mut words, patterns, area::inputs(area));
-    let mut gate = next[0];
-    while gate < count {
-        signals::work_word(&mut words, area, gate);
-        gate = next[gate + 1];
-    }
-    words
-}
-
-// What two rows add, one after the other, from the same words.
-fn both_rows(
-    rows: &mut [u32; rows::ROW_WORDS],
-    held: &mut usize,
+// Both rows of a block, one after the other, from the same words.
+fn walk_rows<S: RowSink>(
+    held: &mut HeldRows,
+    sink: &mut S,
+    walk: &Walk,
     words: &[u64; area::MOST_SOURCES],
-    area: &[u32],
-    next: &[usize; area::MOST_SOURCES],
-    unseen: &[usize; area::MOST_SOURCES],
     number: usize,
-    weights: &[u32],
-) -> u64
-    requires workable { Workable area.now × NextLive area.now next.now 0 × Unseen area.now unseen.now (layout.gates area.now) }
-    requires values_from { ValuesFrom area.now words.now (row_length * number) × ValuesFrom area.now words.now (row_length * (number + 1)) }
-    requires number_inside { number < row_count }
-    requires rows_kept { RowsKept area.now rows.old × RowsHeld area.now unseen.now rows.old held.old }
-    requires weights_fit { WeightsFit (layout.inputs area.now) weights.now }
-    ensures block_adds { BlockAdds area.now weights.now (row_length * number) lane_count result }
-    ensures rows_kept_2 { RowsKept area.now rows.new
-        × RowsHeld area.now unseen.now rows.new held.new }
+)
+    requires planned { Planned walk.now.area.now walk.now.next.now walk.now.unseen.now }
+    requires values_from { ValuesFrom walk.now.area.now words.now (row_length * number)
+        × ValuesFrom walk.now.area.now words.now (row_length * (number + 1)) × (number + 1 < row_count) }
+    requires rows_kept { RowsFor walk.now.area.now walk.now.unseen.now held.old.rows held.old.number }
+    requires done { S.Done sink.old walk.now.area.now (row_length * number) }
+    ensures done_2 { S.Done sink.new walk.now.area.now (row_length * (number + 1 + 1)) × (S.fixed sink.new ≡ S.fixed sink.old) }
+    ensures rows_kept_2 { RowsFor walk.now.area.now walk.now.unseen.now held.new.rows held.new.number }
 {
-    let lower = weighted_row(rows, held, words, area, next, unseen, number, weights);
-    lower + weighted_row(rows, held, words, area, next, unseen, number + 1, weights)
+    walk_row(held, sink, walk, words, number);
+    walk_row(held, sink, walk, words, number + 1);
 }
 
-// What the 64 patterns from `first` on add to the weighted sum: right values for all of them in one word, failures in two rows. The words are lent where
-// they are made, since an array that a `let` takes from a call has two places on the stack.
-fn weighted_block(
-    rows: &mut [u32; rows::ROW_WORDS],
-    held: &mut usize,
-    area: &[u32],
-    next: &[usize; area::MOST_SOURCES],
-    unseen: &[usize; area::MOST_SOURCES],
-    first: usize,
-    weights: &[u32],
-) -> u64
-    requires workable { Workable area.now × NextLive area.now next.now 0 × Unseen area.now unseen.now (layout.gates area.now) }
-    requires weights_fit { WeightsFit (layout.inputs area.now) weights.now × (first < length weights.now) × (first % lane_count ≡ 0) }
-    requires rows_kept { RowsKept area.now rows.old × RowsHeld area.now unseen.now rows.old held.old }
-    ensures block_adds { BlockAdds area.now weights.now first lane_count result }
-    ensures rows_kept_2 { RowsKept area.now rows.new
-        × RowsHeld area.now unseen.now rows.new held.new }
+// The 64 patterns of a block: right values for all of them in one word, failures in two rows. The words are lent where they are made, since an array
+// that a `let` takes from a call has two places on the stack.
+fn walk_block<S: RowSink>(held: &mut HeldRows, sink: &mut S, walk: &Walk, block: usize)
+    requires planned { Planned walk.now.area.now walk.now.next.now walk.now.unseen.now × (2 * block < row_count) }
+    requires rows_kept { RowsFor walk.now.area.now walk.now.unseen.now held.old.rows held.old.number }
+    requires done { S.Done sink.old walk.now.area.now (lane_count * block) }
+    ensures done_2 { S.Done sink.new walk.now.area.now (lane_count * (block + 1)) × (S.fixed sink.new ≡ S.fixed sink.old) }
+    ensures rows_kept_2 { RowsFor walk.now.area.now walk.now.unseen.now held.new.rows held.new.number }
 {
-    let end = block_end(first, signals::LANES, weights.len());
-    if all_zero(&weights[first..end]) {
-        return 0;
+    let first = signals::LANES * block;
+    if sink.skips(walk.area, first, signals::LANES) {
+        return;
     }
-    let patterns = block_patterns(area::inputs(area), first);
-    both_rows(
-        rows,
-        held,
-        &live_words(area, next, &patterns),
-        area,
-        next,
-        unseen,
-        first / rows::LANES,
-        weights,
-    )
+    let patterns = block_patterns(area::inputs(walk.area), first);
+    walk_rows(held, sink, walk, &walk.live_words(&patterns), 2 * block);
 }
 
-// The weighted sum over all patterns, block by block. Not inlined: its rows are not on the stack while `plan::next_live` works.
+// Not inlined: its rows are not on the stack while `plan::next_live` works.
 #[inline(never)]
-fn weighted_blocks(
+fn walk_blocks<S: RowSink>(
+    sink: &mut S,
     area: &[u32],
     next: &[usize; area::MOST_SOURCES],
     unseen: &[usize; area::MOST_SOURCES],
-    weights: &[u32],
-) -> u64
-    requires workable { Workable area.now × NextLive area.now next.now 0 × Unseen area.now unseen.now (layout.gates area.now) }
-    requires weights_fit { WeightsFit (layout.inputs area.now) weights.now }
-    ensures { result ≡ weighted_to area.now weights.now (length weights.now) }
+)
+    requires planned { Planned area.now next.now unseen.now }
+    requires done { S.Done sink.old area.now 0 }
+    ensures { S.Done sink.new area.now (walked_to area.now) × (S.fixed sink.new ≡ S.fixed sink.old) }
 {
-    let mut rows = [0u32; rows::ROW_WORDS];
-    let mut held = NO_ROW;
+    let walk = Walk { area, next, unseen };
+    let blocks = pattern_count(area::inputs(area)).div_ceil(signals::LANES);
+    let mut held = HeldRows {
+        rows: [0u32; rows::ROW_WORDS],
+        number: NO_ROW,
+    };
+    for block in 0..blocks {
+        walk_block(&mut held, sink, &walk, block);
+    }
+}
+
+// The walk over all patterns: the sink takes or skips their rows in order, to the end of the last block. The area is only read: its words of figures may
+// be those of any pattern. Both arrays are lent as arguments where they are made, each in one place on the stack; in the literal of a `Walk` it would be two.
+// Not inlined, since both would be copied where this is a part of its caller.
+#[inline(never)]
+pub fn walk_patterns<S: RowSink>(sink: &mut S, area: &[u32])
+    requires { Workable area.now × S.Done sink.old area.now 0 }
+    ensures { S.Done sink.new area.now (walked_to area.now) × (S.fixed sink.new ≡ S.fixed sink.old) }
+{
+    walk_blocks(sink, area, &plan::next_live(area), &plan::unseen_bits(area));
+}
+
+// The sum over the patterns of their reliabilities, each times its weight.
+#[derive(Drop)]
+struct Weighted<'a> {
+    weights: &'a [u32],
+    sum: u64,
+}
+
+// A row of reliabilities, each times the weight of its pattern, added up; the weights may end within the row.
+fn row_sum(row: [u32; rows::LANES], weights: &[u32]) -> u64
+    requires row_fits { RowFits row }
+    requires by_index { (q : ℕ) → q < length weights.now → get_or weights.now q 0 ≤ layout.largest_weight }
+    ensures { result ≡ sum_below row_length (λ l. get_or weights.now l 0 * get_or row l 0) }
+{
     let mut sum = 0;
-    let mut first = 0;
-    while first < weights.len() {
-        sum += weighted_block(&mut rows, &mut held, area, next, unseen, first, weights);
-        first += signals::LANES;
+    for (reliability, weight) in row.iter().zip(weights) {
+        sum += u64::from(*weight) * u64::from(*reliability);
     }
     sum
 }
 
-// The weighted sum over all patterns. The area is only read: its words of figures may be those of another pattern. Both arrays are lent where they are
-// made, each in one place on the stack.
+impl RowSink for Weighted<'_> {
+    ghost Done = { λ s ws q. WeightsFit (layout.inputs ws) s.weights.now × (s.sum ≡ weighted_to ws s.weights.now q) };
+
+    ghost fixed = { λ s. s.weights.now };
+
+    // Patterns past the last, and those without a weight.
+    fn skips(&self, area: &[u32], start: usize, many: usize) -> bool {
+        let last = self.weights.len();
+        last <= start || all_zero(&self.weights[start..last.min(start + many)])
+    }
+
+    fn take(&mut self, area: &[u32], start: usize, row: [u32; rows::LANES]) {
+        self.sum += row_sum(row, &self.weights[start..]);
+    }
+}
+
+// The weighted sum over all patterns.
 fn weighted_sum(area: &[u32], weights: &[u32]) -> u64
     requires workable { Workable area.now }
     requires weights_fit { WeightsFit (layout.inputs area.now) weights.now }
     ensures { result ≡ weighted_to area.now weights.now (length weights.now) }
 {
-    weighted_blocks(
-        area,
-        &plan::next_live(area),
-        &plan::unseen_bits(area),
-        weights,
-    )
+    let mut sink = Weighted { weights, sum: 0 };
+    walk_patterns(&mut sink, area);
+    sink.sum
 }
 
 // The weighted average of the reliability over all patterns; the area's figures are worked out afresh for its own pattern.

@@ -1,13 +1,12 @@
 -- Counts with a block's ones added gate by gate, in either order, and all blocks of a list. Assumes nothing.
-use Prim.Native.Nat.{ℕ, suc, ◌+◌, ◌-◌, ◌^◌, ◌≤◌, ◌<◌, min}
+use Prim.Native.Nat.{ℕ, suc, ◌+◌, ◌-◌, ◌^◌, ◌≤◌, ◌<◌}
 use mathlib.Core.Bool.{Bool, true, false, cond}
 use mathlib.Core.List.{List, [], ◌∷◌, ◌++◌}
 use mathlib.Core.Path.{◌≡◌, refl, sym, ap, ap₂, ◌∙◌}
-use native.Mathlib.Nat.{le-min}
 use native.Mathlib.Omega.{arith}
 use lib.Count.{ones}
-use lib.ListN.{length, get_or, set, take, drop, length-set, length-append, length-take, length-drop, get_or-append}
-use lib.Seq.{get_or-set_same, get_or-set_other, get_or-append-add, get_or-drop, take-add, take_all, ext_get_or}
+use lib.ListN.{length, get_or, set, drop, length-set, length-append, length-drop, get_or-append}
+use lib.Seq.{get_or-set_same, get_or-set_other, get_or-append-add, get_or-drop, ext_get_or}
 use Rattle.lists.specs.Lists.{count_where, joined}
 use Rattle.lists.proofs.Joined.{length-listed, listed_at}
 use Rattle.lists.proofs.Counts.{where-append}
@@ -16,7 +15,7 @@ use Rattle.netlist.specs.Netlist.{Netlist}
 use Rattle.netlist.specs.Seen.{seen_by, seen_count, seen_counts}
 use Rattle.area.specs.Layout.{most_listed}
 use Rattle.signals.specs.Signals.{lane_count, InEachLane}
-use Rattle.counts.specs.Counts.{in_list, Zeroed, CountsReady, CountsAdded}
+use Rattle.counts.specs.Counts.{in_list, CountsReady, CountsAdded}
 use Rattle.counts.proofs.Windows.{is-or-not, by_order}
 use Rattle.counts.proofs.Listed.{ones-listed}
 
@@ -76,15 +75,12 @@ module _ (method : Method) (net : Netlist) (patterns old : List ℕ) where
 
 -- ---- block after block
 
-module _ (method : Method) (net : Netlist) (patterns entry : List ℕ) where
-  -- the first `at` patterns of the list are counted
-  pub record CountedTo (at : ℕ) (counts : List ℕ) : Type 0 where
+module _ (method : Method) (net : Netlist) (entry : List ℕ) where
+  -- these patterns of the list are counted
+  pub record CountedOn (patterns counts : List ℕ) : Type 0 where
     pub long : length counts ≡ length entry
-    pub counted : (j : ℕ) → j < length net.gates → get_or counts j 0 ≡ seen_count method net (take at patterns) j
+    pub counted : (j : ℕ) → j < length net.gates → get_or counts j 0 ≡ seen_count method net patterns j
     pub past : (j : ℕ) → length net.gates ≤ j → get_or counts j 0 ≡ get_or entry j 0
-
-  pub counted_start : ((j : ℕ) → j < length net.gates → get_or entry j 0 ≡ 0) → CountedTo 0 entry
-  counted_start none = record { long = refl; counted = none; past = λ j l. refl }
 
   -- a list has at most as many that pass as it is long
   where-few : (t : ℕ → Bool) (xs : List ℕ) → count_where t xs ≤ length xs
@@ -95,42 +91,36 @@ module _ (method : Method) (net : Netlist) (patterns entry : List ℕ) where
       go true rest = omega arith
       go false rest = omega arith
 
-  pub counted_ready : (at : ℕ) (counts : List ℕ) → length patterns ≤ most_listed → length net.gates ≤ length entry → CountedTo at counts
+  pub counted_ready : (patterns counts : List ℕ) → length patterns ≤ most_listed → length net.gates ≤ length entry → CountedOn patterns counts
       → CountsReady (length net.gates) counts
-  counted_ready at counts few room c =
+  counted_ready patterns counts few room c =
       record {
         long = omega (arith, c.long);
-        few = λ j l. omega (arith, c.counted j l, where-few (λ q. seen_by method net q j) (take at patterns), length-take at patterns);
+        few = λ j l. omega (arith, c.counted j l, where-few (λ q. seen_by method net q j) patterns);
       }
 
-  pub counted-block : (at end : ℕ) (counts new : List ℕ) → at ≤ end → CountedTo at counts
-      → CountsAdded method net (take (end - at) (drop at patterns)) counts new → CountedTo end new
-  counted-block at end counts new order c block =
+  pub counted-block : (patterns block counts new : List ℕ) → CountedOn patterns counts → CountsAdded method net block counts new
+      → CountedOn (patterns ++ block) new
+  counted-block patterns block counts new c added =
       record {
-        long = block.long ∙ c.long;
+        long = added.long ∙ c.long;
         counted = λ j l.
-            block.added j l
-            ∙ ap (λ (n : ℕ). n + seen_count method net (take (end - at) (drop at patterns)) j) (c.counted j l)
-            ∙ sym (ap (λ (xs : List ℕ). seen_count method net xs j) two-parts
-            ∙ where-append (λ q. seen_by method net q j) (take at patterns) (take (end - at) (drop at patterns)));
-        past = λ j l. block.past j l ∙ c.past j l;
+            added.added j l
+            ∙ ap (λ (n : ℕ). n + seen_count method net block j) (c.counted j l)
+            ∙ sym (where-append (λ q. seen_by method net q j) patterns block);
+        past = λ j l. added.past j l ∙ c.past j l;
       }
-    where
-      two-parts : take end patterns ≡ take at patterns ++ take (end - at) (drop at patterns)
-      two-parts =
-          let e : end ≡ at + (end - at) = omega arith in
-          ap (λ (k : ℕ). take k patterns) e ∙ take-add at (end - at) patterns
 
   -- all patterns: one count a gate, and the entries past them
-  pub counted-whole : (at : ℕ) (counts : List ℕ) → length patterns ≤ at → length net.gates ≤ length entry → CountedTo at counts
+  pub counted-whole : (patterns counts : List ℕ) → length net.gates ≤ length entry → CountedOn patterns counts
       → counts ≡ seen_counts method net patterns ++ drop (length net.gates) entry
   unfolding seen_counts
-  counted-whole at counts all room c =
+  counted-whole patterns counts room c =
       ext_get_or 0 counts whole
       (omega (arith, c.long, length-append listed (drop g entry), length-listed (seen_count method net patterns) g, length-drop g entry))
       (λ i l.
       by_order i g
-      (λ h. c.counted i h ∙ ap (λ (xs : List ℕ). seen_count method net xs i) (take_all at patterns all) ∙ sym (here i h))
+      (λ h. c.counted i h ∙ sym (here i h))
       (λ h. c.past i h ∙ sym (later i h)))
     where
       g : ℕ
@@ -155,13 +145,3 @@ module _ (method : Method) (net : Netlist) (patterns entry : List ℕ) where
           ∙ get_or-append-add listed (drop g entry) (i - g) 0
           ∙ get_or-drop g entry (i - g) 0
           ∙ ap (λ (k : ℕ). get_or entry k 0) back
-
--- what lies past the counts made 0 is as it was
-pub drop-zeroed : (g : ℕ) (old new : List ℕ) → Zeroed g old new → drop g new ≡ drop g old
-drop-zeroed g old new z =
-    ext_get_or 0 (drop g new) (drop g old) (omega (arith, length-drop g new, length-drop g old, z.long))
-    (λ i l. get_or-drop g new i 0 ∙ z.past (g + i) (omega arith) ∙ sym (get_or-drop g old i 0))
-
--- a block has a pattern where any is left
-pub next-end : (at size : ℕ) → at < size → at < min (at + 64) size
-next-end at size h = le-min {k = suc at} {a = at + 64} {b = size} (omega arith) h

@@ -7,3 +7,4 @@ pub mod Listed
 pub mod Flips
 pub mod Masks
 pub mod Added
+pub mod Cleared

@@ -21,7 +21,8 @@ use Rattle.area.specs.Rules.{NetSound}
 use Rattle.area.proofs.Words.{used-below, used-count, used-pin, few-sources}
 use Rattle.signals.specs.Signals.{lane_count, lane, InEachLane}
 use Rattle.signals.proofs.Lanes.{lane-zero}
-use Rattle.counts.specs.Counts.{Reads, right_answer, changed_answer, Unchanged, Settled, Flipped, Following}
+use Rattle.counts.specs.declared.Span.{Span}
+use Rattle.counts.specs.Counts.{span_at, Reads, right_answer, changed_answer, Unchanged, Settled, Flipped, Following}
 
 -- values that are equal do not differ
 pub same-differ : (x y : Bool) → x ≡ y → differ x y ≡ false
@@ -139,7 +140,7 @@ module _ (ws words : List ℕ) (sound : NetSound ws) where
         pass-one gate stop changed f (λ inside l h. sym (lanes l h) ∙ ap (lane l) e ∙ lane-zero l)
 
     -- and one that does: its readers come into the window
-    module _ (first end : List ℕ) (reads : Reads ws (gates ws) first end) (gate stop word : ℕ) (changed : List ℕ) (f : Following ws words j gate stop changed)
+    module _ (spans : List Span) (reads : Reads ws (gates ws) spans) (gate stop word : ℕ) (changed : List ℕ) (f : Following ws words j gate stop changed)
         (inside : gate < gates ws) (in_window : gate < stop)
         (lanes : InEachLane word (λ l. differ (changed_answer ws words changed gate l) (right_answer ws words gate l))) where
       abbrev source : ℕ
@@ -157,7 +158,7 @@ module _ (ws words : List ℕ) (sound : NetSound ws) where
       settled-stored : (m : ℕ) → m < gates ws → m ≤ gate → (l : ℕ) → changed_answer ws words stored m l ≡ changed_answer ws words changed m l
       settled-stored m here few = changed-agree stored changed m here (λ s h. elsewhere s (λ e. omega arith))
 
-      pub follow-changed : Following ws words j (gate + 1) (max stop (get_or end source 0)) stored
+      pub follow-changed : Following ws words j (gate + 1) (max stop (span_at spans source).end) stored
       follow-changed =
           record {
             long = length-set changed source word ∙ f.long;
@@ -174,34 +175,34 @@ module _ (ws words : List ℕ) (sound : NetSound ws) where
             later = λ s h. elsewhere s (λ e. omega arith) ∙ f.later s (omega arith);
             stopped =
                 λ s h.
-                elsewhere s (λ e. omega (arith, le-max_left stop (get_or end source 0)))
-                ∙ f.stopped s (omega (arith, le-max_left stop (get_or end source 0)));
+                elsewhere s (λ e. omega (arith, le-max_left stop (span_at spans source).end))
+                ∙ f.stopped s (omega (arith, le-max_left stop (span_at spans source).end));
             reached =
                 λ m i h here used some.
                 is-or-not (pin ws m i) source
-                (λ e. omega (arith, (reads.within m i here used).1, ap (λ (s : ℕ). get_or end s 0) e, le-max_right stop (get_or end source 0)))
+                (λ e. omega (arith, (reads.within m i here used).1, ap (λ (s : ℕ). (span_at spans s).end) e, le-max_right stop (span_at spans source).end))
                 (λ other.
                 omega (
                   arith,
                   f.reached m i (omega arith) here used (λ z. some (elsewhere (pin ws m i) other ∙ z)),
-                  le-max_left stop (get_or end source 0),
+                  le-max_left stop (span_at spans source).end,
                 ));
             after = (
               omega (arith, f.after.0),
-              omega (arith, f.after.1, le-max_left stop (get_or end source 0)),
+              omega (arith, f.after.1, le-max_left stop (span_at spans source).end),
               max-le f.after.2 (reads.few source),
             );
           }
 
       -- where the window ends with it, the gates before its first reader are passed over
       pub follow-next :
-          Following ws words j (cond (eqb (gate + 1) stop) (max (gate + 1) (get_or first source 0)) (gate + 1)) (max stop (get_or end source 0)) stored
+          Following ws words j (cond (eqb (gate + 1) stop) (max (gate + 1) (span_at spans source).first) (gate + 1)) (max stop (span_at spans source).end) stored
       follow-next = go (eqb (gate + 1) stop) refl
         where
-          none : gate + 1 ≡ stop → (m i : ℕ) → gate + 1 ≤ m → m < get_or first source 0 → m < gates ws → i < pin_count ws m → get_or stored (pin ws m i) 0 ≡ 0
+          none : gate + 1 ≡ stop → (m i : ℕ) → gate + 1 ≤ m → m < (span_at spans source).first → m < gates ws → i < pin_count ws m → get_or stored (pin ws m i) 0 ≡ 0
           none e m i h less here used =
               is-or-not (pin ws m i) source
-              (λ q. absurd (omega (arith, (reads.within m i here used).0, ap (λ (s : ℕ). get_or first s 0) q)))
+              (λ q. absurd (omega (arith, (reads.within m i here used).0, ap (λ (s : ℕ). (span_at spans s).first) q)))
               (λ other.
               elsewhere (pin ws m i) other
               ∙ ⊎_elim
@@ -210,31 +211,31 @@ module _ (ws words : List ℕ) (sound : NetSound ws) where
               (eq-zero-or-pos (get_or changed (pin ws m i) 0)))
 
           go : (b : Bool) → eqb (gate + 1) stop ≡ b
-              → Following ws words j (cond b (max (gate + 1) (get_or first source 0)) (gate + 1)) (max stop (get_or end source 0)) stored
-          go true e = pass-to (gate + 1) (get_or first source 0) (max stop (get_or end source 0)) stored follow-changed (none (eqb-true (gate + 1) stop e))
+              → Following ws words j (cond b (max (gate + 1) (span_at spans source).first) (gate + 1)) (max stop (span_at spans source).end) stored
+          go true e = pass-to (gate + 1) (span_at spans source).first (max stop (span_at spans source).end) stored follow-changed (none (eqb-true (gate + 1) stop e))
           go false e = follow-changed
 
     -- the flip itself, and the gates before its first reader
-    pub follow-first : (first end : List ℕ) → Reads ws (gates ws) first end → j < gates ws → (changed : List ℕ) (by : ℕ) → Unchanged changed
-        → Following ws words j (max (j + 1) (get_or first (inputs ws + j) 0)) (max (j + 1) (get_or end (inputs ws + j) 0)) (set changed (inputs ws + j) by)
-    follow-first first end reads inside changed by none =
-        pass-to (j + 1) (get_or first source 0) (max (j + 1) (get_or end source 0)) stored
+    pub follow-first : (spans : List Span) → Reads ws (gates ws) spans → j < gates ws → (changed : List ℕ) (by : ℕ) → Unchanged changed
+        → Following ws words j (max (j + 1) (span_at spans (inputs ws + j)).first) (max (j + 1) (span_at spans (inputs ws + j)).end) (set changed (inputs ws + j) by)
+    follow-first spans reads inside changed by none =
+        pass-to (j + 1) (span_at spans source).first (max (j + 1) (span_at spans source).end) stored
         (record {
           long = length-set changed source by ∙ none.long;
           before = λ s h. elsewhere s (λ e. omega arith);
           settled = λ m after less here. absurd (omega arith);
           later = λ s h. elsewhere s (λ e. omega arith);
-          stopped = λ s h. elsewhere s (λ e. omega (arith, le-max_left (j + 1) (get_or end source 0)));
+          stopped = λ s h. elsewhere s (λ e. omega (arith, le-max_left (j + 1) (span_at spans source).end));
           reached =
               λ m i h here used some.
               is-or-not (pin ws m i) source
-              (λ e. omega (arith, (reads.within m i here used).1, ap (λ (s : ℕ). get_or end s 0) e, le-max_right (j + 1) (get_or end source 0)))
+              (λ e. omega (arith, (reads.within m i here used).1, ap (λ (s : ℕ). (span_at spans s).end) e, le-max_right (j + 1) (span_at spans source).end))
               (λ other. absurd (some (elsewhere (pin ws m i) other)));
-          after = (omega arith, omega (arith, le-max_left (j + 1) (get_or end source 0)), max-le {k = gates ws} (omega arith) (reads.few source));
+          after = (omega arith, omega (arith, le-max_left (j + 1) (span_at spans source).end), max-le {k = gates ws} (omega arith) (reads.few source));
         })
         (λ m i h less here used.
         is-or-not (pin ws m i) source
-        (λ e. absurd (omega (arith, (reads.within m i here used).0, ap (λ (s : ℕ). get_or first s 0) e)))
+        (λ e. absurd (omega (arith, (reads.within m i here used).0, ap (λ (s : ℕ). (span_at spans s).first) e)))
         (λ other. elsewhere (pin ws m i) other))
       where
         source : ℕ

@@ -3,11 +3,13 @@ use Rattle.std.specs.Prelude.{ℕ, ◌+◌, ◌≤◌, ◌<◌, Bool, false, con
 use Rattle.std.specs.Int.Bits.{bit_xor}
 use Rattle.lists.specs.Lists.{count}
 use Rattle.figure.specs.Figure.{answer}
+use Rattle.counts.specs.declared.Span.{Span}
 use Rattle.netlist.specs.declared.Method.{Method}
 use Rattle.netlist.specs.Netlist.{Netlist}
 use Rattle.netlist.specs.Live.{is_live}
 use Rattle.netlist.specs.Seen.{differ, sensitive, pins_where, mask_reads_from, seen_count}
 use Rattle.area.specs.Layout.{most_sources, most_listed, inputs, gates, table, pin_count, pin, used_pins, output_words}
+use Rattle.area.specs.Rules.{NetSound}
 use Rattle.signals.specs.Signals.{lane_count, lane, InEachLane, right_in}
 
 -- a test of the pattern in lane l; it fails in the lanes past the list
@@ -16,25 +18,26 @@ in_list patterns t l = ltb l (length patterns) && t (get_or patterns l 0)
 
 -- ---- the readers of a source
 
+abbrev pub span_at : List Span → ℕ → Span
+span_at spans s = get_or spans s (record { first = 0; end = 0 })
+
 -- gate m is none that stands below `first` or from `end` on for source s
-abbrev pub Within : List ℕ → List ℕ → ℕ → ℕ → Type 0
-Within first end s m = (get_or first s 0 ≤ m) × (m < get_or end s 0)
+abbrev pub Within : List Span → ℕ → ℕ → Type 0
+Within spans s m = ((span_at spans s).first ≤ m) × (m < (span_at spans s).end)
 
 -- gate m is entered as a reader of source s, and none that was entered is left out
-pub record Entered (old-first old-end : List ℕ) (s m : ℕ) (first end : List ℕ) : Type 0 where
-  pub long_first : length first ≡ most_sources
-  pub long_end : length end ≡ most_sources
-  pub lower : (t : ℕ) → get_or first t 0 ≤ get_or old-first t 0
-  pub higher : (t : ℕ) → get_or old-end t 0 ≤ get_or end t 0
-  pub few : (t : ℕ) → get_or end t 0 ≤ m + 1
-  pub here : Within first end s m
+pub record Entered (old : List Span) (s m : ℕ) (spans : List Span) : Type 0 where
+  pub long : length spans ≡ most_sources
+  pub lower : (t : ℕ) → (span_at spans t).first ≤ (span_at old t).first
+  pub higher : (t : ℕ) → (span_at old t).end ≤ (span_at spans t).end
+  pub few : (t : ℕ) → (span_at spans t).end ≤ m + 1
+  pub here : Within spans s m
 
 -- the used pins of the first k gates are entered
-pub record Reads (ws : List ℕ) (k : ℕ) (first end : List ℕ) : Type 0 where
-  pub long_first : length first ≡ most_sources
-  pub long_end : length end ≡ most_sources
-  pub few : (s : ℕ) → get_or end s 0 ≤ k
-  pub within : (m i : ℕ) → m < k → i < pin_count ws m → Within first end (pin ws m i) m
+pub record Reads (ws : List ℕ) (k : ℕ) (spans : List Span) : Type 0 where
+  pub long : length spans ≡ most_sources
+  pub few : (s : ℕ) → (span_at spans s).end ≤ k
+  pub within : (m i : ℕ) → m < k → i < pin_count ws m → Within spans (pin ws m i) m
 
 -- ---- by the flip: in lane l a source's value changes where bit l of its word in `changed` is set
 
@@ -53,6 +56,12 @@ pub record Unchanged (changed : List ℕ) : Type 0 where
 -- the words of all gates are their answers on their pins' words
 abbrev pub Worked : List ℕ → List ℕ → Type 0
 Worked ws words = (m : ℕ) → m < gates ws → InEachLane (get_or words (inputs ws + m) 0) (right_answer ws words m)
+
+-- the words are right, and all readers are entered
+pub record Followable (ws words : List ℕ) (spans : List Span) : Type 0 where
+  pub net : NetSound ws
+  pub worked : Worked ws words
+  pub reads : Reads ws (gates ws) spans
 
 -- gate m's word in `changed` has the lanes in which its answer changes
 abbrev pub Settled : List ℕ → List ℕ → List ℕ → ℕ → Type 0
@@ -115,12 +124,6 @@ pub record MasksFrom (net : Netlist) (patterns : List ℕ) (j : ℕ) (masks : Li
       ≡ ltb l (length patterns) && is_live (count s (mask_reads_from (right_in net patterns l) net.outputs (net.inputs + j) (drop j net.gates)))
 
 -- ---- counts
-
--- the first g counts are 0, and the others as they were
-pub record Zeroed (g : ℕ) (old new : List ℕ) : Type 0 where
-  pub long : length new ≡ length old
-  pub none : (j : ℕ) → j < g → get_or new j 0 ≡ 0
-  pub past : (j : ℕ) → g ≤ j → get_or new j 0 ≡ get_or old j 0
 
 -- there is a count for each of g gates, with room for a block more
 pub record CountsReady (g : ℕ) (counts : List ℕ) : Type 0 where

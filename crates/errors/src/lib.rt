@@ -18,18 +18,11 @@ fn further_gates(area: &[u32], start: usize, many: usize, inputs: usize) -> u32
     requires { (start + many ≤ length area.now) × (many ≤ layout.most_outputs) }
     ensures { (result ≡ further_gates inputs (take many (drop start area.now))) × (result ≤ many) }
 {
-    let mut gates = 0;
-    let mut i = 0;
-    while i < many {
-        if inputs <= area::index(area[start + i]) {
-            gates += 1;
-        }
-        i += 1;
-    }
-    if gates < 1 {
-        return 0;
-    }
-    gates - 1
+    let gates = area[start..start + many]
+        .iter()
+        .filter(|source| inputs <= area::index(**source))
+        .count();
+    gates.saturating_sub(1) as u32
 }
 
 // What a live gate may cost: its chance is rounded, and so is its step, unless it never flips; then its fold.
@@ -79,10 +72,8 @@ pub fn error_halves(area: &[u32], image: &[u8]) -> u32
         area::outputs(area),
         inputs,
     );
-    let mut gate = 0;
-    while gate < count {
+    for gate in 0..count {
         halves += charged(area, image, readers[inputs + gate], gate);
-        gate += 1;
     }
     halves
 }

@@ -21,11 +21,9 @@ fn add_reads(readers: &mut [u32; area::MOST_SOURCES], area: &[u32], start: usize
     requires counts { Counts readers.old × (many ≤ layout.most_outputs) }
     ensures { Added readers.old (take many (drop start area.now)) readers.new }
 {
-    let mut i = 0;
-    while i < many {
-        let source = area::index(area[start + i]);
+    for word in &area[start..start + many] {
+        let source = area::index(*word);
         readers[source] += 1;
-        i += 1;
     }
 }
 
@@ -63,18 +61,17 @@ pub fn count_live(area: &[u32]) -> LiveCounts
     ensures by_index { (s : ℕ) → get_or result.readers s 0 ≡ readers (net_of area.now [] []) s }
     ensures sum_value { (result.sum ≡ flip_sum area.now) × (length result.readers ≡ layout.most_sources) }
 {
-    let mut gate = area::gates(area);
+    let gates = area::gates(area);
     let mut readers = [0u32; area::MOST_SOURCES];
     add_reads(
         &mut readers,
         area,
-        area::outputs_index(gate),
+        area::outputs_index(gates),
         area::outputs(area),
     );
     let mut sum = 0u64;
-    while 0 < gate {
-        gate -= 1;
-        sum += add_gate(&mut readers, area, gate) as u64;
+    for gate in (0..gates).rev() {
+        sum += u64::from(add_gate(&mut readers, area, gate));
     }
     LiveCounts { readers, sum }
 }
@@ -92,15 +89,10 @@ pub fn live_gates(readers: &[u32; area::MOST_SOURCES], inputs: usize, gates: usi
     requires { inputs + gates ≤ layout.most_sources }
     ensures { result ≡ live_counted readers.now inputs gates }
 {
-    let mut live = 0;
-    let mut gate = 0;
-    while gate < gates {
-        if 0 < readers[inputs + gate] {
-            live += 1;
-        }
-        gate += 1;
-    }
-    live
+    readers[inputs..inputs + gates]
+        .iter()
+        .filter(|many| 0 < **many)
+        .count() as u32
 }
 
 // A raw flip sum after the flip of one gate, whose source has so many readers, has gone from `old` to `new`.
@@ -111,7 +103,7 @@ pub fn changed_sum(sum: u64, readers: u32, old: u32, new: u32) -> u64
     if readers < 1 {
         return sum;
     }
-    sum - old as u64 + new as u64
+    sum - u64::from(old) + u64::from(new)
 }
 
 // Refusal 9: the lowest gate with two readers or more.

@@ -16,15 +16,10 @@ pub fn shared_gates(readers: &[u32; area::MOST_SOURCES], inputs: usize, gates: u
     requires { inputs + gates ≤ layout.most_sources }
     ensures { result ≡ length (shared_from (λ s. get_or readers.now s 0) inputs gates) }
 {
-    let mut shared = 0;
-    let mut gate = 0;
-    while gate < gates {
-        if 1 < readers[inputs + gate] {
-            shared += 1;
-        }
-        gate += 1;
-    }
-    shared
+    readers[inputs..inputs + gates]
+        .iter()
+        .filter(|many| 1 < **many)
+        .count()
 }
 
 // The lowest marked gate from `gate` on, where `after` is that of the gate after it.
@@ -32,10 +27,7 @@ fn lowest_from(marks: &[u32; area::MOST_SOURCES], source: usize, gate: usize, af
     requires { source < layout.most_sources }
     ensures { (0 < get_or marks.now source 0 → result ≡ gate) × (get_or marks.now source 0 ≡ 0 → result ≡ after) }
 {
-    if 0 < marks[source] {
-        return gate;
-    }
-    after
+    if 0 < marks[source] { gate } else { after }
 }
 
 // From each gate on the lowest marked one; the number of gates, which `next` has everywhere, where there is none. The one just found is kept beside the table,
@@ -50,76 +42,79 @@ fn next_marked(
     ensures { NextMarked marks.now next.new inputs gates 0 }
 {
     let mut after = gates;
-    let mut gate = gates;
-    while 0 < gate {
-        gate -= 1;
+    for gate in (0..gates).rev() {
         after = lowest_from(marks, inputs + gate, gate, after);
         next[gate] = after;
     }
 }
 
-// The marked gates from `from` on worked out in order, up to the first shared one, which is handed back; the number of gates where there is none.
-fn work_to_shared(
-    area: &mut [u32],
-    next: &[usize; area::MOST_SOURCES],
-    marks: &[u32; area::MOST_SOURCES],
-    from: usize,
-) -> usize
-    requires workable { Workable area.old × NextMarked marks.now next.now (layout.inputs area.old) (layout.gates area.old) 0 }
-    requires from_bound { from ≤ layout.gates area.old }
-    ensures worked_to { WorkedTo area.old marks.now area.new from result × (from ≤ result) × (result ≤ layout.gates area.old) }
-    ensures shared_at { result < layout.gates area.old → SharedAt area.old marks.now area.new result }
-{
-    let inputs = area::inputs(area);
-    let count = area::gates(area);
-    let mut gate = next[from];
-    while gate < count {
-        work::work_gate(area, gate);
-        if 1 < marks[inputs + gate] {
-            return gate;
-        }
-        gate = next[gate + 1];
-    }
-    gate
-}
-
-// The figures of all sets that suppose of the first `met` shared gates, those before `from`, what the bits of `begun` say, added up. The words have what
-// readers see of the gates before it, and `product` is that over those shared gates.
-fn sum_from(
-    area: &mut [u32],
-    next: &[usize; area::MOST_SOURCES],
-    marks: &[u32; area::MOST_SOURCES],
+// Some suppositions of the walk: those on the first `met` shared gates, before `from`, are what the bits of `begun` say, and `product` is that over them.
+#[derive(Clone, Copy)]
+struct Branch {
     from: usize,
     product: u32,
     met: usize,
     begun: usize,
-) -> u64
-    requires workable { Workable area.old × Marks area.old marks.now × (length (shared_of area.old) ≤ most_shared) }
-    requires next_marked { NextMarked marks.now next.now (layout.inputs area.old) (layout.gates area.old) 0 }
-    requires from_bound { (from ≤ layout.gates area.old) × Stands area.old begun met from product }
-    ensures value { result ≡ sum_begun area.old begun met }
-    ensures same_before { SameBefore area.old marks.now area.new from }
-{
-    let gate = work_to_shared(area, next, marks, from);
-    if gate == area::gates(area) {
-        return work::output_product(area, product) as u64;
+}
+
+// The gates that are walked: their marks, and from each gate on the lowest marked one.
+#[derive(Clone, Copy)]
+struct Marked<'a> {
+    marks: &'a [u32; area::MOST_SOURCES],
+    next: &'a [usize; area::MOST_SOURCES],
+}
+
+impl Marked<'_> {
+    // The marked gates from `from` on worked out in order, up to the first shared one, which is handed back; the number of gates where there is none.
+    fn work_to_shared(&self, area: &mut [u32], from: usize) -> usize
+        requires workable { Workable area.old × NextMarked self.now.marks.now self.now.next.now (layout.inputs area.old) (layout.gates area.old) 0 }
+        requires from_bound { from ≤ layout.gates area.old }
+        ensures worked_to { WorkedTo area.old self.now.marks.now area.new from result × (from ≤ result) × (result ≤ layout.gates area.old) }
+        ensures shared_at { result < layout.gates area.old → SharedAt area.old self.now.marks.now area.new result }
+    {
+        let inputs = area::inputs(area);
+        let count = area::gates(area);
+        let mut gate = self.next[from];
+        while gate < count {
+            work::work_gate(area, gate);
+            if 1 < self.marks[inputs + gate] {
+                return gate;
+            }
+            gate = self.next[gate + 1];
+        }
+        gate
     }
-    let own = area::figure(area, gate);
-    area::store_figure(area, gate, own % 2);
-    let as_right = figure::output_step(product, own / 2);
-    let right = sum_from(area, next, marks, gate + 1, as_right, met + 1, begun);
-    area::store_figure(area, gate, 2 * rounding::ONE + own % 2);
-    let as_wrong = figure::output_step(product, rounding::ONE - own / 2);
-    right
-        + sum_from(
-            area,
-            next,
-            marks,
-            gate + 1,
-            as_wrong,
-            met + 1,
-            begun + (1 << met),
-        )
+
+    // The figures of all sets of a branch, added up. The words have what readers see of the gates before the branch.
+    fn sum_from(&self, area: &mut [u32], branch: Branch) -> u64
+        requires workable { Workable area.old × Marks area.old self.now.marks.now × (length (shared_of area.old) ≤ most_shared) }
+        requires next_marked { NextMarked self.now.marks.now self.now.next.now (layout.inputs area.old) (layout.gates area.old) 0 }
+        requires from_bound { (branch.from ≤ layout.gates area.old) × Stands area.old branch.begun branch.met branch.from branch.product }
+        ensures value { result ≡ sum_begun area.old branch.begun branch.met }
+        ensures same_before { SameBefore area.old self.now.marks.now area.new branch.from }
+    {
+        let gate = self.work_to_shared(area, branch.from);
+        if gate == area::gates(area) {
+            return u64::from(work::output_product(area, branch.product));
+        }
+        let own = area::figure(area, gate);
+        area::store_figure(area, gate, own % 2);
+        let as_right = Branch {
+            from: gate + 1,
+            product: figure::output_step(branch.product, own / 2),
+            met: branch.met + 1,
+            begun: branch.begun,
+        };
+        let right = self.sum_from(area, as_right);
+        area::store_figure(area, gate, 2 * rounding::ONE + own % 2);
+        let as_wrong = Branch {
+            from: gate + 1,
+            product: figure::output_step(branch.product, rounding::ONE - own / 2),
+            met: branch.met + 1,
+            begun: branch.begun + (1 << branch.met),
+        };
+        right + self.sum_from(area, as_wrong)
+    }
 }
 
 // Whether a source is a gate that has a mark.
@@ -127,10 +122,7 @@ fn is_marked(marks: &[u32; area::MOST_SOURCES], inputs: usize, source: usize) ->
     requires { source < layout.most_sources }
     ensures { result ≡ false → inputs ≤ source → get_or marks.now source 0 ≡ 0 }
 {
-    if source < inputs {
-        return false;
-    }
-    0 < marks[source]
+    inputs <= source && 0 < marks[source]
 }
 
 // Whether a used pin of a gate reads a marked one.
@@ -139,13 +131,10 @@ fn reads_marked(area: &[u32], marks: &[u32; area::MOST_SOURCES], gate: usize) ->
     ensures { result ≡ false → ReadsUnmarked area.now marks.now gate }
 {
     let inputs = area::inputs(area);
-    let count = area::pin_count(area, gate);
-    let mut i = 0;
-    while i < count {
+    for i in 0..area::pin_count(area, gate) {
         if is_marked(marks, inputs, area::pin(area, gate, i)) {
             return true;
         }
-        i += 1;
     }
     false
 }
@@ -174,11 +163,8 @@ fn settle(area: &mut [u32], marks: &mut [u32; area::MOST_SOURCES], shared: usize
     if shared < 2 {
         return;
     }
-    let count = area::gates(area);
-    let mut gate = 0;
-    while gate < count {
+    for gate in 0..area::gates(area) {
         settle_gate(area, marks, gate);
-        gate += 1;
     }
 }
 
@@ -197,9 +183,16 @@ pub fn shared_reliability(
     let gates = area::gates(area);
     let mut next = [gates; area::MOST_SOURCES];
     next_marked(&mut next, readers, area::inputs(area), gates);
-    let sum = sum_from(area, &next, readers, 0, rounding::ONE, 0, 0);
-    if rounding::UNITS_IN_ONE < sum {
-        return rounding::ONE;
-    }
-    sum as u32
+    let marked = Marked {
+        marks: readers,
+        next: &next,
+    };
+    let all = Branch {
+        from: 0,
+        product: rounding::ONE,
+        met: 0,
+        begun: 0,
+    };
+    let sum = marked.sum_from(area, all);
+    sum.min(rounding::UNITS_IN_ONE) as u32
 }

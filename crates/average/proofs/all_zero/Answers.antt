@@ -1,36 +1,20 @@
--- `average::all_zero` meets its contract: what is left to test from q on decides. Assumes nothing.
-use Prim.Native.Nat.{ℕ, ◌-◌}
-use mathlib.Core.Bool.{Bool}
-use mathlib.Core.Path.{sym, ◌∙◌}
-use native.Mathlib.Omega.{arith}
-use borrow.Author.Tests.{eq-eqb, ne_eqb}
-use lib.Dec.{eqb}
-use lib.ListN.{length, get_or}
-use Rattle.lists.proofs.Every.{passes_on, fails, ends, zero-part}
+-- `average::all_zero` meets its contract. Assumes nothing.
+use Rattle.std.proofs.Common.{rules, ◌≡◌, ◌↔◌, Bool, true, false, List, ℕ, IsTrue, EachIndex, arith, refl, sym, get_or, length}
+use Rattle.std.proofs.Math.ListN.{get_or-eq_default}
+use mathlib.Core.Logic.{by_cases}
+use native.Mathlib.Decide.{dec_lt}
+use Rattle.lists.specs.Lists.{all_zero}
+use Rattle.lists.proofs.Every.{zero-passes, zero-holds}
 use Rattle.average.proofs.all_zero.Goals as goal
 
-pub loop-q-init : goal.loop-q-init
-loop-q-init c =
-    let ws = c.args.weights.now in
-    (omega arith, zero-part ws 0 (length ws - 0) (omega arith))
-
-pub returns-then-weights-q-ne0 : goal.returns-then-weights-q-ne0
-returns-then-weights-q-ne0 c =
-    let l = c.loop-q in
-    let ws = c.args.weights.now in
-    let t : ℕ → Bool = λ k. eqb (get_or ws k 0) 0 in
-    sym (l.invariant.1 ∙ fails t l.q (length ws) (omega arith) (ne_eqb _ _ c.if-weights-q-ne0.true))
-
-pub loop-q-preserved : goal.loop-q-preserved
-loop-q-preserved c =
-    let l = c.loop-q in
-    let ws = c.args.weights.now in
-    let t : ℕ → Bool = λ k. eqb (get_or ws k 0) 0 in
-    (omega arith, l.invariant.1 ∙ passes_on t l.q (length ws) (omega arith) (eq-eqb _ _ c.if-weights-q-ne0.false))
+zero-is : (b : Bool) (xs : List ℕ) → (IsTrue b ↔ EachIndex xs (λ k. get_or xs k 0 ≡ 0)) → b ≡ all_zero xs
+zero-is true xs e =
+    sym (zero-passes xs (λ i. by_cases (dec_lt i (length xs)) (λ inside. e.0 (search rules) i inside) (λ past. get_or-eq_default xs 0 (omega arith))))
+zero-is false xs e = none (all_zero xs) refl
+  where
+    none : (v : Bool) → all_zero xs ≡ v → false ≡ v
+    none true z = e.1 (λ k inside. zero-holds xs z k)
+    none false z = refl
 
 pub returns : goal.returns
-returns c =
-    let l = c.loop-q in
-    let ws = c.args.weights.now in
-    let t : ℕ → Bool = λ k. eqb (get_or ws k 0) 0 in
-    sym (l.invariant.1 ∙ ends t l.q (length ws) (omega arith))
+returns c = zero-is c.all.result c.args.weights.now (search rules)

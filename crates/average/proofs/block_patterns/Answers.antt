@@ -32,20 +32,20 @@ module _ (c : In-loop-l) where
 pub loop-l-init : goal.loop-l-init
 loop-l-init c = (omega arith, refl, below_none _)
 
-pub overflow_add-patterns : goal.overflow_add-patterns
-overflow_add-patterns c =
+pub overflow_add-pattern : goal.overflow_add-pattern
+overflow_add-pattern c =
     omega (arith, c.requires.1)
 
-pub nonzero_rem-patterns : goal.nonzero_rem-patterns
-nonzero_rem-patterns c = rw (whole c) (pow_pos (n c))
+pub nonzero_rem-pattern : goal.nonzero_rem-pattern
+nonzero_rem-pattern c = rw (whole (goal.at.nonzero_rem-pattern c).In-loop-l) (pow_pos c.args.inputs)
 
-pub overflow_cast-patterns : goal.overflow_cast-patterns
-overflow_cast-patterns c = omega (arith, small c)
+pub overflow_cast-pattern : goal.overflow_cast-pattern
+overflow_cast-pattern c = omega (arith, small (goal.at.overflow_cast-pattern c).In-loop-l)
 
 pub loop-l-preserved : goal.loop-l-preserved
 loop-l-preserved c =
     let l = c.loop-l in
-    fill-turn lane_count _ l.patterns l.l _ l.invariant (omega arith) (ap (λ (d : ℕ). (c.args.first + l.l) % d) (whole c))
+    fill-turn lane_count _ l.pattern-items l.l _ l.invariant (omega arith) (ap (λ (d : ℕ). (c.args.first + l.l) % d) (whole (goal.at.loop-l-preserved c).In-loop-l))
 
 pub returns : goal.returns
 returns c =

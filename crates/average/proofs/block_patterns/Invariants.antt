@@ -1,11 +1,8 @@
-use Prim.Native.Nat.{ℕ, ◌+◌, ◌-◌, ◌%◌, ◌^◌}
+use Prim.Native.Nat.{ℕ, ◌+◌, ◌%◌, ◌^◌}
 use Rattle.rows.proofs.Fill.{Filled}
 use Rattle.signals.specs.Signals.{lane_count}
 use Rattle.average.proofs.block_patterns.Given as goal
 
 abbrev pub invariant-loop-l : goal.invariant-loop-l
 invariant-loop-l l =
-    Filled lane_count (λ (k : ℕ). (l.first + k) % 2 ^ l.inputs) l.patterns l.l
-
-abbrev pub decreases-loop-l : goal.decreases-loop-l
-decreases-loop-l l = lane_count - l.l
+    Filled lane_count (λ (k : ℕ). (l.first + k) % 2 ^ l.inputs) l.pattern-items l.l

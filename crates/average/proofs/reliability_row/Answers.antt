@@ -25,7 +25,7 @@ module _ (c : In-loop-k) where
   k = c.loop-k.k
 
   used : k < outputs ws
-  used = omega (arith, c.outputs-count.ensures)
+  used = omega (arith, c.outputs-k-end.ensures)
 
   inside : k < length (output_words ws)
   inside = omega (arith, used, output_count ws c.requires.0)
@@ -38,15 +38,14 @@ module _ (c : After-index-source) where
   fits : (l : ℕ) → l < row_length → row_at c.args.rows.now c.index-source.result l ≤ units_in_one
   fits l less = subst (λ (x : ℕ). row_at c.args.rows.now x l ≤ units_in_one) (sym here) (c.requires.1 (k (record { before = c.before.before.before; type_inv = record { area = c.shared_slice_known-1.given } })) l (inside (record { before = c.before.before.before; type_inv = record { area = c.shared_slice_known-1.given } })) less)
 
-pub outputs-count-requires : goal.outputs-count-requires
-outputs-count-requires c =
+pub outputs-k-end-requires : goal.outputs-k-end-requires
+outputs-k-end-requires c =
     omega (arith, c.requires.0.long)
 
 pub loop-k-init : goal.loop-k-init
 loop-k-init c =
     let each : (l : ℕ) → l < row_length → get_or
     (replicate row_length units_in_one) l 0 ≡ units_in_one = λ l less. get_or-replicate row_length l units_in_one 0 less in (
-      omega arith,
       λ l less. omega (arith, each l less),
       λ l less. ap (λ (x : ℕ). product_from (row_word c.args.rows.now l) x (output_words c.args.area.now)) (each l less),
     )
@@ -59,7 +58,7 @@ output_row-next-requires c =
     let turn = (goal.at.output_row-next-requires c).In-loop-k in
     let at-loop = c.loop-k in record {
       row_fits = (
-        at-loop.invariant.1,
+        at-loop.invariant.0,
         omega
             (arith, here c, output-below (ws turn) c.requires.0 (k turn) (inside turn), few-sources (ws turn) c.requires.0),
       );
@@ -71,8 +70,7 @@ loop-k-preserved c =
     let at-loop = c.loop-k in
     let l = at-loop in
     let step = c.output_row-next in (
-      omega arith,
-      λ m less. rw (step.ensures m less) (output-at-most units_in_one (omega arith) (get_or l.row m 0) _ (l.invariant.1 m less) (fits (goal.at.loop-k-preserved c).After-index-source m less)),
+      λ m less. rw (step.ensures m less) (output-at-most units_in_one (omega arith) (get_or l.row m 0) _ (l.invariant.0 m less) (fits (goal.at.loop-k-preserved c).After-index-source m less)),
       λ m less.
           let half : 2 * row_at c.args.rows.now c.index-source.result m / 2 ≡ row_at c.args.rows.now
           c.index-source.result m = omega arith in
@@ -81,17 +79,17 @@ loop-k-preserved c =
           (step.ensures m less
           ∙ ap (output_step units_in_one (get_or l.row m 0)) (sym half)
           ∙ ap (λ (o : ℕ). output_step units_in_one (get_or l.row m 0) (failure_of (row_word c.args.rows.now m o))) (here (goal.at.loop-k-preserved c).After-index-source))
-          (l.invariant.2 m less),
+          (l.invariant.1 m less),
     )
 
 pub returns : goal.returns
 returns c =
-    let at-outputs = c.outputs-count in
+    let at-outputs = c.outputs-k-end in
     let a = c.args in
     let l = c.loop-k in
     let past : length (output_words a.area.now) ≤ l.k = omega (arith, output_count a.area.now c.requires.0, at-outputs.ensures) in record {
       each_entry = λ m less.
           sym (ap (product_from (row_word a.rows.now m) (get_or l.row m 0)) (drop_of_length-le (output_words a.area.now) past))
-          ∙ l.invariant.2 m less;
-      row_fits = l.invariant.1;
+          ∙ l.invariant.1 m less;
+      row_fits = l.invariant.0;
     }

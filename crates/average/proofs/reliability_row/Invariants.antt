@@ -1,4 +1,4 @@
-use Prim.Native.Nat.{ℕ, ◌-◌, ◌≤◌, ◌<◌}
+use Prim.Native.Nat.{ℕ, ◌<◌}
 use mathlib.Core.Path.{◌≡◌}
 use lib.ListN.{get_or, drop}
 use Rattle.area.specs.Figures.{product_from}
@@ -10,9 +10,6 @@ use Rattle.average.proofs.reliability_row.Given as goal
 
 abbrev pub invariant-loop-k : goal.invariant-loop-k
 invariant-loop-k l =
-    (l.k ≤ l.count) × RowFits l.row
+    RowFits l.row
     × ((m : ℕ) → m < row_length
     → product_from (row_word l.rows m) (get_or l.row m 0) (drop l.k (output_words l.area)) ≡ product_from (row_word l.rows m) units_in_one (output_words l.area))
-
-abbrev pub decreases-loop-k : goal.decreases-loop-k
-decreases-loop-k l = l.count - l.k

@@ -1,15 +1,16 @@
--- `average::weighted_sum` meets its contract. Assumes nothing.
+-- `average::weighted_sum` meets its contract: past the last pattern the sum stays. Assumes nothing.
+use Rattle.std.proofs.Common.{List, ℕ, ◌∙◌, ap, refl, arith}
+use Rattle.average.specs.WeightedSum.{weighted_to}
+use Rattle.average.specs.Walked.{walked_to}
+use Rattle.average.proofs.WeightedSum.{weighted-past}
 use Rattle.average.proofs.weighted_sum.Goals as goal
 
-pub next_live-requires : goal.next_live-requires
-next_live-requires c = c.requires.workable.net
-
-pub unseen_bits-requires : goal.unseen_bits-requires
-unseen_bits-requires c = c.requires.workable.net
-
-pub weighted_blocks-requires : goal.weighted_blocks-requires
-weighted_blocks-requires c =
-    record { workable = (c.requires.workable, c.next_live.ensures, c.unseen_bits.ensures); weights_fit = c.requires.weights_fit }
+pub walk_patterns-requires : goal.walk_patterns-requires
+unfolding weighted_to
+walk_patterns-requires c = (c.requires.workable, (c.requires.weights_fit, refl))
 
 pub returns : goal.returns
-returns c = c.weighted_blocks.ensures
+returns c =
+    let a = c.args in
+    let sum = c.walk_patterns.ensures.0.1 ∙ ap (λ (ws : List ℕ). weighted_to a.area.now ws (walked_to a.area.now)) c.walk_patterns.ensures.1 in
+    sum ∙ weighted-past a.area.now a.weights.now (walked_to a.area.now) (omega (arith, c.requires.weights_fit.one_each))

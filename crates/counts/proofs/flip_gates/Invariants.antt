@@ -1,4 +1,3 @@
-use Prim.Native.Nat.{◌-◌, ◌≤◌}
 use mathlib.Core.List.{[]}
 use Rattle.netlist.specs.declared.Method.TheVariants.{Flip}
 use Rattle.area.specs.Net.{net_of}
@@ -8,7 +7,4 @@ use Rattle.counts.proofs.flip_gates.Given as goal
 
 abbrev pub invariant-loop-gate : goal.invariant-loop-gate
 invariant-loop-gate l =
-    (l.gate ≤ l.gates) × Unchanged l.changed × CountedIn Flip (net_of l.area [] []) l.patterns l.initial.counts 0 l.gate l.counts
-
-abbrev pub decreases-loop-gate : goal.decreases-loop-gate
-decreases-loop-gate l = l.gates - l.gate
+    Unchanged l.changed × CountedIn Flip (net_of l.area [] []) l.patterns l.initial.counts 0 l.gate l.counts

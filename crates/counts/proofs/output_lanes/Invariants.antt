@@ -1,4 +1,3 @@
-use Prim.Native.Nat.{◌-◌, ◌≤◌}
 use lib.ListN.{take}
 use Rattle.area.specs.Layout as layout
 use Rattle.signals.specs.Signals.{InEachLane}
@@ -6,7 +5,4 @@ use Rattle.counts.specs.Counts.{some_changed}
 use Rattle.counts.proofs.output_lanes.Given as goal
 
 abbrev pub invariant-loop-k : goal.invariant-loop-k
-invariant-loop-k l = (l.k ≤ l.outputs) × InEachLane l.lanes (some_changed l.changed (take l.k (layout.output_words l.area)))
-
-abbrev pub decreases-loop-k : goal.decreases-loop-k
-decreases-loop-k l = l.outputs - l.k
+invariant-loop-k l = InEachLane l.lanes (some_changed l.changed (take l.k (layout.output_words l.area)))

@@ -31,7 +31,7 @@ gate_word-right-requires c =
 pub loop-i-init : goal.loop-i-init
 loop-i-init c =
     let a = c.args in
-    (omega arith, passed_none a.area.now a.words.now c.requires.net_sound.0 a.gate c.requires.net_sound.2 a.masks.now c.requires.masks_len.0)
+    passed_none a.area.now a.words.now c.requires.net_sound.0 a.gate c.requires.net_sound.2 a.masks.now c.requires.masks_len.0
 
 pub pin-source-requires : goal.pin-source-requires
 pin-source-requires c =
@@ -84,21 +84,19 @@ loop-i-preserved c =
     let ws = a.area.now in
     let here = used (goal.at.loop-i-preserved c).After-pin-source in
     let more = passed-more ws a.words.now c.requires.net_sound.0 a.gate c.requires.net_sound.2 l.i here a.masks.now l.masks in
-    let by = passed-by ws a.words.now c.requires.net_sound.0 a.gate c.requires.net_sound.2 l.i here a.masks.now l.masks l.invariant.1 in (
-      omega arith,
-      elim c.if-inputs-source.branch [
-        | then-inputs-source w ↦
-            let lanes = rw (at_table.ensures, at-pin-count.ensures, at-pin-words.ensures) at w.sensitive_word.ensures in
-            rw (w.masks-is, at_pin.ensures)
-            (more w.sensitive_word.result a.mask l.invariant.1 c.requires.masks_len.1 (source-inside (goal.at.loop-i-preserved c).After-pin-source)
-            (pins-sensitive ws a.words.now a.gate w.sensitive_word.result l.i lanes))
-        | else-inputs-source w ↦ rw w.masks-is (by (omega (arith, w.if-inputs-source.false, at_pin.ensures, at-inputs.ensures)))
-      ],
-    )
+    let by = passed-by ws a.words.now c.requires.net_sound.0 a.gate c.requires.net_sound.2 l.i here a.masks.now l.masks l.invariant in
+    elim c.if-inputs-source.branch [
+      | then-inputs-source w ↦
+          let lanes = rw (at_table.ensures, at-pin-count.ensures, at-pin-words.ensures) at w.sensitive_word.ensures in
+          rw (w.masks-is, at_pin.ensures)
+          (more w.sensitive_word.result a.mask l.invariant c.requires.masks_len.1 (source-inside (goal.at.loop-i-preserved c).After-pin-source)
+          (pins-sensitive ws a.words.now a.gate w.sensitive_word.result l.i lanes))
+      | else-inputs-source w ↦ rw w.masks-is (by (omega (arith, w.if-inputs-source.false, at_pin.ensures, at-inputs.ensures)))
+    ]
 
 pub returns : goal.returns
 returns c =
     let at-pin-count = c.pin_count-count in
     let l = c.loop-i in
     let end : l.i ≡ layout.pin_count c.args.area.now c.args.gate = omega (arith, at-pin-count.ensures) in
-    rw end at l.invariant.1
+    rw end at l.invariant

@@ -43,7 +43,6 @@ loop-gate-init c =
     ∙ ap₂ further_gates c.inputs-inputs.ensures
     (ap₂ (λ (k i : ℕ). take k (drop i ws)) c.outputs.ensures
     (c.outputs_index.ensures ∙ ap (λ (g : ℕ). 8 + 8 * g) c.gates-count.ensures)) in (
-      omega arith,
       omega (
         arith,
         c.further_gates-halves.ensures.1,
@@ -79,7 +78,7 @@ pub overflow_add-halves : goal.overflow_add-halves
 overflow_add-halves c =
     omega (
       arith,
-      c.loop-gate.invariant.1,
+      c.loop-gate.invariant.0,
       c.charged-halves.ensures.upper_bound,
       c.loop-gate-test.true,
       c.gates-count.ensures,
@@ -97,10 +96,10 @@ loop-gate-preserved c =
     ∙ c.count_readers-readers.ensures (inputs ws + l.gate) in
     let one = c.charged-halves.ensures.value ∙ charge-is ws kinds [] l.gate _ _ inside
     (sym (kind_at c.args.image.now l.gate (omega (arith, c.requires.2)))) counted in
-    (omega arith, omega (arith, l.invariant.1, c.charged-halves.ensures.upper_bound), next-charge (charge ws kinds []) l.gate l.halves _ _ l.invariant.2 one)
+    (omega (arith, l.invariant.0, c.charged-halves.ensures.upper_bound), next-charge (charge ws kinds []) l.gate l.halves _ _ l.invariant.1 one)
 
 pub returns : goal.returns
 returns c =
     let ws = c.args.area.now in
     let l = c.loop-gate in
-    let all : l.gate ≡ gates ws = omega (arith, c.loop-gate-test.false, c.gates-count.ensures) in record { value = rw all at l.invariant.2 ∙ sym (halves_are ws (image_kinds c.args.image.now) []); upper_bound = omega (arith, l.invariant.1, all, c.requires.0.gates_fit) }
+    let all : l.gate ≡ gates ws = omega (arith, c.loop-gate-test.false, c.gates-count.ensures) in record { value = rw all at l.invariant.1 ∙ sym (halves_are ws (image_kinds c.args.image.now) []); upper_bound = omega (arith, l.invariant.0, all, c.requires.0.gates_fit) }

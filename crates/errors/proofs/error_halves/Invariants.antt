@@ -1,4 +1,4 @@
-use Prim.Native.Nat.{◌+◌, ◌-◌, ◌*◌, ◌≤◌}
+use Prim.Native.Nat.{◌+◌, ◌*◌, ◌≤◌}
 use mathlib.Core.List.{[]}
 use mathlib.Core.Path.{◌≡◌}
 use Rattle.lists.specs.Lists.{sum_below}
@@ -10,7 +10,4 @@ use Rattle.errors.proofs.error_halves.Given as goal
 
 abbrev pub invariant-loop-gate : goal.invariant-loop-gate
 invariant-loop-gate l =
-    (l.gate ≤ l.count) × (l.halves ≤ 64 + 6 * l.gate) × (l.halves ≡ sum_below l.gate (charge l.area (image_kinds l.image) []) + further_gates (inputs l.area) (output_words l.area))
-
-abbrev pub decreases-loop-gate : goal.decreases-loop-gate
-decreases-loop-gate l = l.count - l.gate
+    (l.halves ≤ 64 + 6 * l.gate) × (l.halves ≡ sum_below l.gate (charge l.area (image_kinds l.image) []) + further_gates (inputs l.area) (output_words l.area))

@@ -20,10 +20,10 @@ module _ (c : Else-readers-lt1) where
   has = flip-live c.args.readers c.args.new (omega (arith, c.if-readers-lt1.false))
 
 pub overflow_sub-result : goal.overflow_sub-result
-overflow_sub-result c = omega (arith, had c, c.requires.0)
+overflow_sub-result c = omega (arith, c.from.ensures, had (goal.at.overflow_sub-result c).Else-readers-lt1, c.requires.0)
 
 pub overflow_add-result : goal.overflow_add-result
-overflow_add-result c = omega (arith, had c, c.requires.0, c.requires.1)
+overflow_add-result c = omega (arith, c.from.ensures, c.from-2.ensures, had (goal.at.overflow_add-result c).Else-readers-lt1, c.requires.0, c.requires.1)
 
 pub returns : goal.returns
-returns c = omega (arith, had c, has c, c.requires.0)
+returns c = omega (arith, c.from.ensures, c.from-2.ensures, had (goal.at.returns c).Else-readers-lt1, has (goal.at.returns c).Else-readers-lt1, c.requires.0)

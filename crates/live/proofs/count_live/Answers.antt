@@ -18,13 +18,13 @@ pub add_reads-requires : goal.add_reads-requires
 add_reads-requires c =
     let ws = c.args.area.now in
     let sound = c.requires in
-    let first = c.outputs_index.ensures in record { many_in_bounds = omega (arith, sound.long); by_index = λ i l. rw (first, c.gates-gate.ensures) (omega (arith, output-source ws sound i (omega arith), few-sources ws sound)); counts = (no_reads, omega (arith, sound.outputs_fit)) }
+    let first = c.outputs_index.ensures in record { many_in_bounds = omega (arith, sound.long); by_index = λ i l. rw (first, c.gates-gates.ensures) (omega (arith, output-source ws sound i (omega arith), few-sources ws sound)); counts = (no_reads, omega (arith, sound.outputs_fit)) }
 
 pub loop-gate-init : goal.loop-gate-init
 unfolding flip_sum
 loop-gate-init c =
     let ws = c.args.area.now in
-    let at-gates = c.gates-gate.ensures in
+    let at-gates = c.gates-gates.ensures in
     let added = rw (c.outputs_index.ensures, at-gates, c.outputs.ensures) at c.add_reads.ensures in
     rw at-gates (le_refl (gates ws), added.long, first_reads ws c.add_reads.new.readers added, omega arith, zero-add (sum_below (gates ws) (live_flip ws)))
 
@@ -56,13 +56,14 @@ module _ (c : After-add_gate) where
       ap (λ (k : ℕ). sum_below k (live_flip ws)) last
 
 pub loop-gate-preserved : goal.loop-gate-preserved
-loop-gate-preserved c = (
-  omega arith,
-  c.add_gate.ensures.added.long,
-  gate-turn (ws c) c.loop-gate.readers c.add_gate.new.readers (g c) (omega arith) (counted c) c.add_gate.ensures.added,
-  omega arith,
-  omega (arith, c.loop-gate.invariant.4, added c, more c),
-)
+loop-gate-preserved c =
+    let turn = (goal.at.loop-gate-preserved c).After-add_gate in (
+      omega arith,
+      c.add_gate.ensures.added.long,
+      gate-turn (ws turn) c.loop-gate.readers c.add_gate.new.readers (g turn) (omega arith) (counted turn) c.add_gate.ensures.added,
+      omega (arith, c.from-sum.ensures),
+      omega (arith, c.loop-gate.invariant.4, c.from-sum.ensures, added turn, more turn),
+    )
 
 pub returns : goal.returns
 returns c =

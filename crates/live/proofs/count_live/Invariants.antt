@@ -15,7 +15,3 @@ invariant-loop-gate l =
     × CountsOf l.readers (reads_after l.area l.gate)
     × (l.sum ≤ (gates l.area - l.gate) * 4_294_967_295)
     × (l.sum + sum_below l.gate (live_flip l.area) ≡ flip_sum l.area)
-
-abbrev pub decreases-loop-gate : goal.decreases-loop-gate
-decreases-loop-gate l =
-    l.gate

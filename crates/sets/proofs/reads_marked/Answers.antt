@@ -14,17 +14,17 @@ use Rattle.sets.proofs.reads_marked.Goals as goal
 pub inputs-inputs-requires : goal.inputs-inputs-requires
 inputs-inputs-requires c = omega (arith, c.requires.0.long)
 
-pub pin_count-count-requires : goal.pin_count-count-requires
-pin_count-count-requires c = gate-inside _ c.requires.0 _ c.requires.1
+pub pin_count-i-end-requires : goal.pin_count-i-end-requires
+pin_count-i-end-requires c = gate-inside _ c.requires.0 _ c.requires.1
 
 pub loop-i-init : goal.loop-i-init
 loop-i-init c =
-    (omega arith, below_none (Clear c.args.area.now c.args.marks.now c.args.gate))
+    below_none (Clear c.args.area.now c.args.marks.now c.args.gate)
 
 -- a turn's pin is used
 module _ (c : In-loop-i) where
   used : c.loop-i.i < pin_count c.args.area.now c.args.gate
-  used = omega (arith, c.pin_count-count.ensures)
+  used = omega (arith, c.pin_count-i-end.ensures)
 
 pub pin-requires : goal.pin-requires
 pin-requires c = (
@@ -50,12 +50,11 @@ pub loop-i-preserved : goal.loop-i-preserved
 loop-i-preserved c =
     let l = c.loop-i in
     let at_pin = c.pin in (
-      omega arith,
-      below_more (Clear c.args.area.now c.args.marks.now c.args.gate) l.i l.invariant.1
-          (λ from.
-          ap (λ (x : ℕ). get_or c.args.marks.now x 0) (sym at_pin.ensures)
-          ∙ c.is_marked.ensures c.if-is_marked.false (omega (arith, at_pin.ensures, c.inputs-inputs.ensures, from))),
+    below_more (Clear c.args.area.now c.args.marks.now c.args.gate) l.i l.invariant
+    (λ from.
+    ap (λ (x : ℕ). get_or c.args.marks.now x 0) (sym at_pin.ensures)
+    ∙ c.is_marked.ensures c.if-is_marked.false (omega (arith, at_pin.ensures, c.inputs-inputs.ensures, from)))
     )
 
 pub returns : goal.returns
-returns c = λ e i less. c.loop-i.invariant.1 i (omega (arith, c.pin_count-count.ensures))
+returns c = λ e i less. c.loop-i.invariant i (omega (arith, c.pin_count-i-end.ensures))

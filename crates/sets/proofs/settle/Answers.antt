@@ -13,30 +13,30 @@ none s = settled-none s.args.area.now s.args.marks.now s.requires.0 s.requires.1
 pub returns-then-shared-lt2 : goal.returns-then-shared-lt2
 returns-then-shared-lt2 c = none (goal.at.returns-then-shared-lt2 c).Start
 
-pub gates-count-requires : goal.gates-count-requires
-gates-count-requires c =
+pub gates-gate-end-requires : goal.gates-gate-end-requires
+gates-gate-end-requires c =
     omega (arith, c.requires.0.net.long)
 
 pub loop-gate-init : goal.loop-gate-init
-loop-gate-init c = (omega arith, none (goal.at.loop-gate-init c).Start)
+loop-gate-init c = none (goal.at.loop-gate-init c).Start
 
 -- a turn's gate
 module _ (c : In-loop-gate) where
   inside : c.loop-gate.gate < gates c.loop-gate.area
-  inside = omega (arith, c.gates-count.ensures, c.loop-gate.invariant.1.same_gates)
+  inside = omega (arith, c.gates-gate-end.ensures, c.loop-gate.invariant.same_gates)
 
 pub settle_gate-requires : goal.settle_gate-requires
 settle_gate-requires c =
     let l = c.loop-gate in
-    (l.invariant.1.workable, l.invariant.1.marked, l.invariant.1.room, inside (goal.at.settle_gate-requires c).In-loop-gate)
+    (l.invariant.workable, l.invariant.marked, l.invariant.room, inside (goal.at.settle_gate-requires c).In-loop-gate)
 
 pub loop-gate-preserved : goal.loop-gate-preserved
 loop-gate-preserved c =
     let l = c.loop-gate in
-    (omega arith, settled-then c.args.area.now l.area _ _ l.invariant.1 c.settle_gate.ensures)
+    settled-then c.args.area.now l.area _ _ l.invariant c.settle_gate.ensures
 
 pub shape_of-area : goal.shape_of-area
-shape_of-area c = c.loop-gate.invariant.1.size
+shape_of-area c = c.loop-gate.invariant.size
 
 pub returns : goal.returns
-returns c = c.loop-gate.invariant.1
+returns c = c.loop-gate.invariant

@@ -1,42 +1,26 @@
 -- `sets::shared_gates` meets its contract: those among the gates looked at are counted. Assumes nothing.
-use Prim.Native.Nat.{ℕ, ◌+◌}
-use mathlib.Core.List.{[], ◌∷◌}
-use mathlib.Core.Path.{◌≡◌, refl, sym, ap, ◌∙◌}
-use native.Mathlib.Omega.{arith}
-use lib.ListN.{length, get_or, length-append}
+use Rattle.std.proofs.Common.{rules, ◌≡◌, Bool, true, false, cond, List, ◌∷◌, ℕ, zero, suc, ◌+◌, ◌-◌, ◌≤◌, length, get_or, take, drop, refl, ap, sym, ◌∙◌, arith, drop-cons}
+use Rattle.std.specs.List.{count_by, filter}
+use Rattle.std.proofs.lemmas.List.Sums.{length-filter}
+use Rattle.std.proofs.Math.Dec.{ltb, leb}
 use Rattle.suppose.specs.Suppose.{shared_from}
-use Rattle.suppose.proofs.Sharing.{shared_same, shared-more}
-use Rattle.sets.proofs.shared_gates.Goals.{then-readers-inputs-gt1, else-readers-inputs-gt1}
 use Rattle.sets.proofs.shared_gates.Goals as goal
 
-pub loop-gate-init : goal.loop-gate-init
-loop-gate-init c = (omega arith, omega arith, refl)
-
-pub loop-gate-preserved : goal.loop-gate-preserved
-loop-gate-preserved c =
-    let l = c.loop-gate in
-    let a = c.args in
-    let reads : ℕ → ℕ = λ s. get_or a.readers.now s 0 in
-    elim c.if-readers-inputs-gt1.branch [
-      | then-readers-inputs-gt1 w ↦
-          let more = shared-more reads a.inputs l.gate (omega (arith, w.if-readers-inputs-gt1.true)) in (
-            omega arith,
-            omega (arith, w.shared-is),
-            omega (
-              arith,
-              w.shared-is,
-              l.invariant.2,
-              ap length more,
-              length-append (shared_from reads a.inputs l.gate) ((a.inputs + l.gate) ∷ []),
-            ),
-          )
-      | else-readers-inputs-gt1 w ↦
-          let same = shared_same reads a.inputs l.gate (omega (arith, w.if-readers-inputs-gt1.false)) in
-          (omega arith, omega (arith, w.shared-is), w.shared-is ∙ l.invariant.2 ∙ ap length (sym same))
-    ]
+counted : (xs : List ℕ) (s k : ℕ) → s + k ≤ length xs → length (filter (ltb 1) (take k (drop s xs))) ≡ length (shared_from (λ t. get_or xs t 0) s k)
+counted xs s zero few = refl
+counted xs s (suc k) few = rw (drop-cons xs s 0 (omega arith)) (go (leb 2 (get_or xs s 0)) (counted xs (suc s) k (omega arith)))
+  where
+    go : (b : Bool) → length (filter (ltb 1) (take k (drop (suc s) xs))) ≡ length (shared_from (λ t. get_or xs t 0) (suc s) k)
+        → length (cond b (get_or xs s 0 ∷ filter (ltb 1) (take k (drop (suc s) xs))) (filter (ltb 1) (take k (drop (suc s) xs))))
+        ≡ length (cond b (s ∷ shared_from (λ t. get_or xs t 0) (suc s) k) (shared_from (λ t. get_or xs t 0) (suc s) k))
+    go true e = ap suc e
+    go false e = e
 
 pub returns : goal.returns
 returns c =
-    let l = c.loop-gate in
-    let end : l.gate ≡ c.args.gates = omega arith in
-    rw end at l.invariant.2
+    let a = c.args in
+    let same : a.inputs + a.gates - a.inputs ≡ a.gates = omega arith in
+    let number : c.count.result ≡ count_by (ltb 1) (take (a.inputs + a.gates - a.inputs) (drop a.inputs a.readers.now)) = search rules in
+    rw same at number
+    ∙ sym (length-filter (ltb 1) (take a.gates (drop a.inputs a.readers.now)))
+    ∙ counted a.readers.now a.inputs a.gates (omega arith)

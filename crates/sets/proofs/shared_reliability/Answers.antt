@@ -1,11 +1,12 @@
 -- `sets::shared_reliability` meets its contract: every live gate has its readers for a mark, some are settled; all sets are added, and cut at U.
 -- Assumes nothing.
-use Prim.Native.Nat.{ℕ, ◌+◌}
-use mathlib.Core.Bool.{Bool, cond}
+use Prim.Native.Nat.{ℕ, ◌+◌, min}
+use mathlib.Core.Bool.{Bool, true, false, cond}
 use mathlib.Core.List.{List}
-use mathlib.Core.Path.{◌≡◌, refl, sym, ap, ◌∙◌}
+use mathlib.Core.Path.{◌≡◌, refl, ap, ◌∙◌}
 use native.Mathlib.Omega.{arith}
-use borrow.Author.Tests.{le-leb, lt-leb}
+use borrow.Author.Tests.{leb-true, leb-false}
+use lib.Dec.{leb}
 use lib.ListN.{length}
 use Rattle.rounding.specs.Rounding.{units_in_one}
 use Rattle.suppose.specs.Suppose.{at_most}
@@ -62,18 +63,16 @@ module _ (c : After-sum_from-sum) where
   size-kept : length c.sum_from-sum.new.area ≡ length c.args.area.now
   size-kept = c.sum_from-sum.ensures.same_before.size ∙ c.settle.ensures.size
 
-pub shape_of-area-then-sum-gt-UNITS_IN_ONE : goal.shape_of-area-then-sum-gt-UNITS_IN_ONE
-shape_of-area-then-sum-gt-UNITS_IN_ONE c = size-kept (goal.at.shape_of-area-then-sum-gt-UNITS_IN_ONE c).After-sum_from-sum
-
-pub returns-then-sum-gt-UNITS_IN_ONE : goal.returns-then-sum-gt-UNITS_IN_ONE
-returns-then-sum-gt-UNITS_IN_ONE c =
-    let sum = c.sum_from-sum.result in
-    sym (ap (λ (b : Bool). cond b sum units_in_one) (lt-leb sum units_in_one c.if-sum-gt-UNITS_IN_ONE.true)) ∙ cut (goal.at.returns-then-sum-gt-UNITS_IN_ONE c).After-sum_from-sum
-
 pub shape_of-area : goal.shape_of-area
 shape_of-area c = size-kept (goal.at.shape_of-area c).After-sum_from-sum
 
+-- the smaller of the sum and U
+least : (sum : ℕ) → min sum units_in_one ≡ at_most units_in_one sum
+least sum = go (leb sum units_in_one) refl
+  where
+    go : (b : Bool) → leb sum units_in_one ≡ b → min sum units_in_one ≡ cond b sum units_in_one
+    go true e = omega (arith, leb-true sum units_in_one e)
+    go false e = omega (arith, leb-false sum units_in_one e)
+
 pub returns : goal.returns
-returns c =
-    let sum = c.sum_from-sum.result in
-    sym (ap (λ (b : Bool). cond b sum units_in_one) (le-leb sum units_in_one (omega (arith, c.if-sum-gt-UNITS_IN_ONE.false)))) ∙ cut (goal.at.returns c).After-sum_from-sum
+returns c = c.min.ensures ∙ least c.sum_from-sum.result ∙ cut (goal.at.returns c).After-sum_from-sum

@@ -1,6 +1,0 @@
-use Prim.Native.Nat.{◌-◌}
-use Rattle.area.specs.Layout.{gates}
-use Rattle.sets.proofs.+sum_from.Given as goal
-
-abbrev pub decreases-sum_from : goal.decreases-sum_from
-decreases-sum_from l = gates l.area.now - l.from
