@@ -1,7 +1,8 @@
 pub mod Fold
-pub mod Step
-pub mod Spread
-pub mod Under
 pub mod Laws
+pub mod Pins
 pub mod Split
+pub mod Spread
+pub mod Step
+pub mod Under
 pub mod Word

@@ -1,14 +1,14 @@
 // A gate's figures: the fold of the sixteen values, the gate step and the output product.
 //
-// A source is read as one word, 2 × failure + right value. The fold is written out for each pin count, with every count in a call a
-// constant, so that the compiler unrolls the steps and keeps the sixteen values in registers. A pin that cannot fail need not be
-// folded: it only moves the index that the others start from.
+// A source is read as one word, 2 × failure + right value. The fold has the pin count as a const parameter, so that the compiler
+// writes out its loops in each instance and keeps the sixteen values in registers. A pin that cannot fail need not be folded: it
+// only moves the index that the others start from.
 #![tactic(auto)]
 
-ghost use Rattle.std.specs.Prelude.{◌≡◌, [], map, ℕ, ◌+◌, ◌*◌, ◌/◌, ◌%◌, ◌^◌, ◌<◌, ◌≤◌, get_or, take};
+ghost use Rattle.std.specs.Prelude.{◌≡◌, [], ◌∷◌, map, ℕ, ◌+◌, ◌*◌, ◌/◌, ◌%◌, ◌^◌, ◌<◌, ◌≤◌, get_or, take};
 ghost use Rattle.rounding.specs.Rounding.{units_in_one, blend};
-ghost use Rattle.figure.specs.Figure.{failure_of, fold_step, gate_step, output_step};
-ghost use Rattle.figure.specs.Steps.{first_pins, room, spread_pin, differs, NoneOrAll, pins_word};
+ghost use Rattle.figure.specs.Figure.{failure_of, fold_step, fold_pins, gate_step, output_step};
+ghost use Rattle.figure.specs.Steps.{first_pins, room, spread_pin, spread_pins, differs, NoneOrAll, pins_word};
 
 // Each of the first `used` indices becomes two: the pin right, the pin wrong. The pin adds its bit to an index where its value is 1.
 fn spread_pin(
@@ -26,14 +26,33 @@ fn spread_pin(
     let right = words[pin] % 2 * bit;
     let wrong = bit - right;
     let mut spread = [0u32; 16];
-    let mut i = 0;
-    while i < used {
+    for i in 0..used {
         let x = indices[i];
         spread[2 * i] = x + right;
         spread[2 * i + 1] = x + wrong;
-        i += 1;
     }
     spread
+}
+
+// How many error patterns so many pins have.
+fn patterns(pins: usize) -> usize
+    requires { pins ≤ 4 }
+    ensures { result ≡ 2 ^ pins }
+{
+    1 << pins
+}
+
+// The indices where the first COUNT pins of the arrays are right or wrong, from `start` on: the last pin is spread first.
+fn spread_pins<const COUNT: usize>(start: u32, words: &[u32; 4], bits: &[u32; 4]) -> [u32; 16]
+    requires { (COUNT ≤ 4) × (start + room (first_pins COUNT words.now bits.now) ≤ 15) }
+    ensures { take (2 ^ COUNT) result ≡ spread_pins (first_pins COUNT words.now bits.now) (start ∷ []) }
+{
+    let mut at = [start; 16];
+    for pin in 0..COUNT {
+        let next = spread_pin(at, patterns(pin), words, bits, COUNT - 1 - pin);
+        at = next;
+    }
+    at
 }
 
 // The table's answer at one index.
@@ -64,10 +83,8 @@ fn start_values(table: u32, right: u32, indices: [u32; 16], used: usize) -> [u32
     ensures by_index_2 { (i : ℕ) → i < used → NoneOrAll units_in_one (get_or result i 0) }
 {
     let mut values = [0u32; 16];
-    let mut i = 0;
-    while i < used {
+    for i in 0..used {
         values[i] = difference(table, right, indices[i]);
-        i += 1;
     }
     values
 }
@@ -83,6 +100,19 @@ fn first_pair(right: u32, wrong: u32, failure: u32) -> u32
     right / rounding::ONE * (rounding::ONE - failure) + wrong / rounding::ONE * failure
 }
 
+// Of the first 2 × half values each pair becomes one, its mean, and half as many are in use.
+fn fold_pairs<F: Fn(u32, u32) -> u32>(values: [u32; 16], half: usize, mean: F) -> [u32; 16]
+    requires half_bound { half ≤ 8 }
+    requires callable { (i : ℕ) → i < half → F.pre mean (get_or values (2 * i) 0) (get_or values (2 * i + 1) 0) }
+    ensures { (i : ℕ) → i < half → F.post mean (get_or values (2 * i) 0) (get_or values (2 * i + 1) 0) (get_or result i 0) }
+{
+    let mut values = values;
+    for i in 0..half {
+        values[i] = mean(values[2 * i], values[2 * i + 1]);
+    }
+    values
+}
+
 // Step 2 of the figures for the pin that is folded first, on the first 2 × half values of step 1: each pair becomes one, and half as many
 // are in use. Nothing is rounded.
 fn fold_first(values: [u32; 16], half: usize, words: &[u32; 4], pin: usize) -> [u32; 16]
@@ -92,13 +122,11 @@ fn fold_first(values: [u32; 16], half: usize, words: &[u32; 4], pin: usize) -> [
     ensures by_index_2 { (i : ℕ) → i < half → get_or result i 0 ≤ units_in_one }
 {
     let failure = words[pin] / 2;
-    let mut values = values;
-    let mut i = 0;
-    while i < half {
-        values[i] = first_pair(values[2 * i], values[2 * i + 1], failure);
-        i += 1;
-    }
-    values
+    fold_pairs(
+        values,
+        half,
+        |right, wrong| first_pair(right, wrong, failure),
+    )
 }
 
 // Step 2 of the figures for a later pin: of the first 2 × half values each pair becomes one, and half as many are in use.
@@ -109,13 +137,27 @@ fn fold_step(values: [u32; 16], half: usize, words: &[u32; 4], pin: usize) -> [u
     ensures by_index_2 { (i : ℕ) → i < half → get_or result i 0 ≤ units_in_one }
 {
     let failure = words[pin] / 2;
-    let mut values = values;
-    let mut i = 0;
-    while i < half {
-        values[i] = rounding::blended(values[2 * i], values[2 * i + 1], failure);
-        i += 1;
+    fold_pairs(
+        values,
+        half,
+        |right, wrong| rounding::blended(right, wrong, failure),
+    )
+}
+
+// The last value of the fold: the first pin of COUNT is folded exactly, the later ones in turn.
+fn fold_pins<const COUNT: usize>(values: [u32; 16], words: &[u32; 4]) -> u32
+    requires count_bound { (0 < COUNT) × (COUNT ≤ 4) }
+    requires by_index { (i : ℕ) → i < COUNT → failure_of (get_or words.now i 0) ≤ units_in_one }
+    requires by_index_2 { (i : ℕ) → i < 2 ^ COUNT → NoneOrAll units_in_one (get_or values i 0) }
+    ensures value { result ≡ fold_pins units_in_one (map failure_of (take COUNT words.now)) (take (2 ^ COUNT) values) }
+    ensures fits { result ≤ units_in_one }
+{
+    let mut values = fold_first(values, patterns(COUNT - 1), words, 0);
+    for pin in 1..COUNT {
+        let next = fold_step(values, patterns(COUNT - 1 - pin), words, pin);
+        values = next;
     }
-    values
+    values[0]
 }
 
 // Step 3 of the figures, the gate step: from the last value and the flip.
@@ -150,73 +192,24 @@ fn word_none(table: u32, start: u32, flip: u32) -> u32
     word_of(0, flip, answer_at(table, start))
 }
 
-// A gate's word where the first one, two, three and four pins of the arrays may fail. At the first index every pin is right.
-fn word_one(table: u32, start: u32, words: [u32; 4], bits: [u32; 4], flip: u32) -> u32
-    requires bits_bound { (start + room (first_pins 1 words bits) ≤ 15) × (flip ≤ units_in_one) }
-    requires by_index { (i : ℕ) → i < 1 → failure_of (get_or words i 0) ≤ units_in_one }
-    ensures { result ≡ pins_word units_in_one table start (first_pins 1 words bits) flip }
+// A gate's word where the first COUNT pins of the arrays may fail. At the first index every pin is right.
+fn word_of_pins<const COUNT: usize>(
+    table: u32,
+    start: u32,
+    words: [u32; 4],
+    bits: [u32; 4],
+    flip: u32,
+) -> u32
+    requires count_bound { (0 < COUNT) × (COUNT ≤ 4) × (flip ≤ units_in_one) }
+    requires bits_bound { start + room (first_pins COUNT words bits) ≤ 15 }
+    requires by_index { (i : ℕ) → i < COUNT → failure_of (get_or words i 0) ≤ units_in_one }
+    ensures { result ≡ pins_word units_in_one table start (first_pins COUNT words bits) flip }
 {
-    let words = &words;
-    let bits = &bits;
-    let at = spread_pin([start; 16], 1, words, bits, 0);
+    let at = spread_pins::<COUNT>(start, &words, &bits);
     let right = answer_at(table, at[0]);
-    let values = start_values(table, right, at, 2);
-    let values = fold_first(values, 1, words, 0);
-    word_of(values[0], flip, right)
-}
-
-fn word_two(table: u32, start: u32, words: [u32; 4], bits: [u32; 4], flip: u32) -> u32
-    requires bits_bound { (start + room (first_pins 2 words bits) ≤ 15) × (flip ≤ units_in_one) }
-    requires by_index { (i : ℕ) → i < 2 → failure_of (get_or words i 0) ≤ units_in_one }
-    ensures { result ≡ pins_word units_in_one table start (first_pins 2 words bits) flip }
-{
-    let words = &words;
-    let bits = &bits;
-    let at = spread_pin([start; 16], 1, words, bits, 1);
-    let at = spread_pin(at, 2, words, bits, 0);
-    let right = answer_at(table, at[0]);
-    let values = start_values(table, right, at, 4);
-    let values = fold_first(values, 2, words, 0);
-    let values = fold_step(values, 1, words, 1);
-    word_of(values[0], flip, right)
-}
-
-fn word_three(table: u32, start: u32, words: [u32; 4], bits: [u32; 4], flip: u32) -> u32
-    requires bits_bound { (start + room (first_pins 3 words bits) ≤ 15) × (flip ≤ units_in_one) }
-    requires by_index { (i : ℕ) → i < 3 → failure_of (get_or words i 0) ≤ units_in_one }
-    ensures { result ≡ pins_word units_in_one table start (first_pins 3 words bits) flip }
-{
-    let words = &words;
-    let bits = &bits;
-    let at = spread_pin([start; 16], 1, words, bits, 2);
-    let at = spread_pin(at, 2, words, bits, 1);
-    let at = spread_pin(at, 4, words, bits, 0);
-    let right = answer_at(table, at[0]);
-    let values = start_values(table, right, at, 8);
-    let values = fold_first(values, 4, words, 0);
-    let values = fold_step(values, 2, words, 1);
-    let values = fold_step(values, 1, words, 2);
-    word_of(values[0], flip, right)
-}
-
-fn word_four(table: u32, start: u32, words: [u32; 4], bits: [u32; 4], flip: u32) -> u32
-    requires bits_bound { (start + room (first_pins 4 words bits) ≤ 15) × (flip ≤ units_in_one) }
-    requires by_index { (i : ℕ) → i < 4 → failure_of (get_or words i 0) ≤ units_in_one }
-    ensures { result ≡ pins_word units_in_one table start (first_pins 4 words bits) flip }
-{
-    let words = &words;
-    let bits = &bits;
-    let at = spread_pin([start; 16], 1, words, bits, 3);
-    let at = spread_pin(at, 2, words, bits, 2);
-    let at = spread_pin(at, 4, words, bits, 1);
-    let at = spread_pin(at, 8, words, bits, 0);
-    let right = answer_at(table, at[0]);
-    let values = start_values(table, right, at, 16);
-    let values = fold_first(values, 8, words, 0);
-    let values = fold_step(values, 4, words, 1);
-    let values = fold_step(values, 2, words, 2);
-    let values = fold_step(values, 1, words, 3);
-    word_of(values[0], flip, right)
+    let values = start_values(table, right, at, patterns(COUNT));
+    let last = fold_pins::<COUNT>(values, &words);
+    word_of(last, flip, right)
 }
 
 // A gate's word where the first `count` pins may fail, with these words and bits. Three and four are called from two places each: a function that is called
@@ -236,20 +229,20 @@ pub fn pins_word(
 {
     match count {
         0 => word_none(table, start, flip),
-        1 => word_one(table, start, words, bits, flip),
-        2 => word_two(table, start, words, bits, flip),
+        1 => word_of_pins::<1>(table, start, words, bits, flip),
+        2 => word_of_pins::<2>(table, start, words, bits, flip),
         3 => {
             if flip == 0 {
-                word_three(table, start, words, bits, 0)
+                word_of_pins::<3>(table, start, words, bits, 0)
             } else {
-                word_three(table, start, words, bits, flip)
+                word_of_pins::<3>(table, start, words, bits, flip)
             }
         }
         _ => {
             if flip == 0 {
-                word_four(table, start, words, bits, 0)
+                word_of_pins::<4>(table, start, words, bits, 0)
             } else {
-                word_four(table, start, words, bits, flip)
+                word_of_pins::<4>(table, start, words, bits, flip)
             }
         }
     }

@@ -1,6 +1,5 @@
 -- Words of 64 patterns: bit l of a source's word is its value in lane l, under pattern l of a block. Lanes past a list have pattern 0.
-use Rattle.std.specs.Prelude.{ℕ, ◌+◌, ◌/◌, ◌^◌, ◌<◌, Bool, false, List, [], ◌∷◌, map, ◌≢◌, ◌≡◌, length, get_or, take}
-use Rattle.std.specs.Int.Bits.{bit_xor}
+use Rattle.std.specs.Prelude.{ℕ, ◌+◌, ◌/◌, ◌^◌, ◌<◌, Bool, false, List, map, ◌≢◌, ◌≡◌, length, get_or, take}
 use Rattle.figure.specs.Figure.{is_odd, answer}
 use Rattle.netlist.specs.Netlist.{Netlist, right_values}
 use Rattle.area.specs.Layout.{most_sources, inputs, pin_count, table, pins}
@@ -15,10 +14,6 @@ lane l word = is_odd (word / 2 ^ l)
 -- a word has these values
 abbrev pub InEachLane : ℕ → (ℕ → Bool) → Type 0
 InEachLane word value = (l : ℕ) → l < lane_count → lane l word ≡ value l
-
--- what a table with one pin can answer, by its two bits, where the pin has the word that stands third: never, the pin inverted, the pin, always
-abbrev pub ByFirst : List ℕ → Type 0
-ByFirst by = by ≡ 0 ∷ bit_xor (get_or by 2 0) 18_446_744_073_709_551_615 ∷ get_or by 2 0 ∷ 18_446_744_073_709_551_615 ∷ []
 
 -- the values of the first `count` of these pins' words in lane l
 abbrev pub pin_lanes : ℕ → ℕ → List ℕ → List Bool

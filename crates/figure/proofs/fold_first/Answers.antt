@@ -1,20 +1,24 @@
--- `figure::fold_first` meets its contract: each turn folds one pair to the front, as in `fold_step`. Assumes nothing.
-use Prim.Native.Nat.{◌+◌, ◌*◌}
+-- `figure::fold_first` meets its contract: what each call of the mean gave is the pair folded. Assumes nothing.
+use Prim.Native.Nat.{ℕ, ◌<◌}
 use mathlib.Core.Path.{◌≡◌}
+use borrow.Author.Rules.{rules}
 use native.Mathlib.Omega.{arith}
-use Rattle.figure.proofs.Step.{turn, folded, folded_fits}
+use lib.ListN.{get_or}
+use Rattle.rounding.specs.Rounding.{units_in_one}
+use Rattle.figure.specs.Figure.{failure_of}
+use Rattle.figure.proofs.Step.{pair_at, folded, folded_fits}
+use Rattle.figure.proofs.fold_first.Goals.{After-fold_pairs}
 use Rattle.figure.proofs.fold_first.Goals as goal
 
-pub first_pair-requires : goal.first_pair-requires
-first_pair-requires c =
-    let i = c.loop-i.i in
-    let s = c.loop-i.invariant.1 in
-    let sure = c.requires.by_index in record { none_or_all = rw (s.rest (2 * i) (omega arith)) (sure (2 * i) (omega arith)); none_or_all_2 = rw (s.rest (2 * i + 1) (omega arith)) (sure (2 * i + 1) (omega arith)); failure_le_units_in_one = c.requires.half_bound.2 }
-
-pub loop-i-preserved : goal.loop-i-preserved
-loop-i-preserved c = (omega arith, rw c.first_pair.ensures (turn c.loop-i.invariant.1 (omega arith)))
+done : (c : After-fold_pairs) (i : ℕ) → i < c.args.half
+    → get_or c.fold_pairs.result i 0 ≡ pair_at units_in_one (failure_of (get_or c.args.words.now c.args.pin 0)) c.args.values i
+done c i l = search (rules, c.fold_pairs.ensures i l)
 
 pub returns : goal.returns
 returns c =
-    let end : c.loop-i.i ≡ c.args.half = omega arith in
-    let done = rw end at c.loop-i.invariant.1 in record { result_value = folded done (omega arith); by_index_2 = folded_fits done (omega arith) c.requires.half_bound.2 (λ i l. (c.requires.by_index i l).1) }
+    record {
+      result_value = folded units_in_one (failure_of (get_or c.args.words.now c.args.pin 0)) c.args.values c.fold_pairs.result c.args.half
+          (omega arith) (omega arith) (done c);
+      by_index_2 = folded_fits units_in_one (failure_of (get_or c.args.words.now c.args.pin 0)) c.args.values c.fold_pairs.result c.args.half
+          (done c) (omega arith) c.requires.half_bound.2 (λ i l. (c.requires.by_index i l).1);
+    }

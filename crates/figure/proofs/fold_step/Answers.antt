@@ -1,24 +1,24 @@
--- `figure::fold_step` meets its contract: each turn folds one pair to the front. Assumes nothing.
-use Prim.Native.Nat.{◌+◌, ◌*◌}
+-- `figure::fold_step` meets its contract: what each call of the mean gave is the pair folded. Assumes nothing.
+use Prim.Native.Nat.{ℕ, ◌<◌}
 use mathlib.Core.Path.{◌≡◌}
+use borrow.Author.Rules.{rules}
 use native.Mathlib.Omega.{arith}
-use Rattle.figure.proofs.Step.{turn, folded, folded_fits}
+use lib.ListN.{get_or}
+use Rattle.rounding.specs.Rounding.{units_in_one}
+use Rattle.figure.specs.Figure.{failure_of}
+use Rattle.figure.proofs.Step.{pair_at, folded, folded_fits}
+use Rattle.figure.proofs.fold_step.Goals.{After-fold_pairs}
 use Rattle.figure.proofs.fold_step.Goals as goal
 
-pub blended-requires : goal.blended-requires
-blended-requires c =
-    let i = c.loop-i.i in
-    let s = c.loop-i.invariant.1 in
-    let fits = c.requires.by_index in (
-      rw (s.rest (2 * i) (omega arith)) (fits (2 * i) (omega arith)),
-      rw (s.rest (2 * i + 1) (omega arith)) (fits (2 * i + 1) (omega arith)),
-      c.requires.half_bound.2,
-    )
-
-pub loop-i-preserved : goal.loop-i-preserved
-loop-i-preserved c = (omega arith, rw c.blended.ensures (turn c.loop-i.invariant.1 (omega arith)))
+done : (c : After-fold_pairs) (i : ℕ) → i < c.args.half
+    → get_or c.fold_pairs.result i 0 ≡ pair_at units_in_one (failure_of (get_or c.args.words.now c.args.pin 0)) c.args.values i
+done c i l = search (rules, c.fold_pairs.ensures i l)
 
 pub returns : goal.returns
 returns c =
-    let end : c.loop-i.i ≡ c.args.half = omega arith in
-    let done = rw end at c.loop-i.invariant.1 in record { result_value = folded done (omega arith); by_index_2 = folded_fits done (omega arith) c.requires.half_bound.2 c.requires.by_index }
+    record {
+      result_value = folded units_in_one (failure_of (get_or c.args.words.now c.args.pin 0)) c.args.values c.fold_pairs.result c.args.half
+          (omega arith) (omega arith) (done c);
+      by_index_2 = folded_fits units_in_one (failure_of (get_or c.args.words.now c.args.pin 0)) c.args.values c.fold_pairs.result c.args.half
+          (done c) (omega arith) c.requires.half_bound.2 c.requires.by_index;
+    }

@@ -21,7 +21,7 @@ pub overflow_sub-wrong : goal.overflow_sub-wrong
 overflow_sub-wrong c = pin-adds (goal.at.overflow_sub-wrong c).Start
 
 pub loop-i-init : goal.loop-i-init
-loop-i-init c = (omega arith, refl, refl)
+loop-i-init c = (refl, refl)
 
 pub overflow_add-spread : goal.overflow_add-spread
 overflow_add-spread c =
@@ -37,9 +37,9 @@ loop-i-preserved c =
     let a = c.args in
     let bit = get_or a.bits.now a.pin 0 in
     let right = get_or a.words.now a.pin 0 % 2 * bit in
-    (omega arith, simp length-set l.invariant.1, spread-turn right (bit - right) a.indices l.spread l.i (omega arith) (omega arith) l.invariant.2)
+    (simp length-set l.invariant.0, spread-turn right (bit - right) a.indices l.spread l.i (omega arith) (omega arith) l.invariant.1)
 
 pub returns : goal.returns
 returns c =
     let end : c.loop-i.i ≡ c.args.used = omega arith in
-    rw end at c.loop-i.invariant.2
+    rw end at c.loop-i.invariant.1

@@ -1,4 +1,4 @@
-use Prim.Native.Nat.{◌-◌, ◌*◌, ◌≤◌}
+use Prim.Native.Nat.{◌*◌}
 use mathlib.Core.Path.{◌≡◌}
 use lib.ListN.{length, take}
 use Rattle.figure.specs.Steps.{spread_step}
@@ -6,8 +6,4 @@ use Rattle.figure.proofs.spread_pin.Given as goal
 
 abbrev pub invariant-loop-i : goal.invariant-loop-i
 invariant-loop-i l =
-    (l.i ≤ l.used) × (length l.spread ≡ 16) × (take (2 * l.i) l.spread ≡ spread_step l.right l.wrong (take l.i l.indices))
-
-abbrev pub decreases-loop-i : goal.decreases-loop-i
-decreases-loop-i l =
-    l.used - l.i
+    (length l.spread ≡ 16) × (take (2 * l.i) l.spread ≡ spread_step l.right l.wrong (take l.i l.indices))

@@ -19,9 +19,8 @@ pub loop-i-preserved : goal.loop-i-preserved
 loop-i-preserved c =
     let l = c.loop-i in
     let a = c.args in (
-      omega arith,
-      simp length-set l.invariant.1,
-      rw c.difference.ensures (map-turn (differs units_in_one a.table a.right) a.indices l.values l.i (omega arith) (omega arith) l.invariant.2),
+      simp length-set l.invariant.0,
+      rw c.difference.ensures (map-turn (differs units_in_one a.table a.right) a.indices l.values l.i (omega arith) (omega arith) l.invariant.1),
     )
 
 pub returns : goal.returns
@@ -30,4 +29,4 @@ returns c =
     let values = c.loop-i.values in
     let test : ℕ → Bool = λ x. eqb (a.table / 2 ^ x % 2) a.right in
     let end : c.loop-i.i ≡ a.used = omega arith in
-    let done : take a.used values ≡ map (differs units_in_one a.table a.right) (take a.used a.indices) = rw end at c.loop-i.invariant.2 in record { result_value = done; by_index_2 = λ i l. subst (NoneOrAll units_in_one) (sym (in-part values _ a.used done i l)) (choices units_in_one test (take a.used a.indices) i) }
+    let done : take a.used values ≡ map (differs units_in_one a.table a.right) (take a.used a.indices) = rw end at c.loop-i.invariant.1 in record { result_value = done; by_index_2 = λ i l. subst (NoneOrAll units_in_one) (sym (in-part values _ a.used done i l)) (choices units_in_one test (take a.used a.indices) i) }

@@ -1,4 +1,3 @@
-use Prim.Native.Nat.{◌-◌, ◌≤◌}
 use mathlib.Core.Path.{◌≡◌}
 use mathlib.Core.List.{map}
 use lib.ListN.{length, take}
@@ -8,7 +7,4 @@ use Rattle.figure.proofs.start_values.Given as goal
 
 abbrev pub invariant-loop-i : goal.invariant-loop-i
 invariant-loop-i l =
-    (l.i ≤ l.used) × (length l.values ≡ 16) × (take l.i l.values ≡ map (differs units_in_one l.table l.right) (take l.i l.indices))
-
-abbrev pub decreases-loop-i : goal.decreases-loop-i
-decreases-loop-i l = l.used - l.i
+    (length l.values ≡ 16) × (take l.i l.values ≡ map (differs units_in_one l.table l.right) (take l.i l.indices))

@@ -1,7 +1,6 @@
 -- `signals::input_word` meets its contract: the word has the bits of the patterns from l on, the first of them lowest. Assumes nothing.
 use Prim.Native.Nat.{ℕ, suc, ◌+◌, ◌-◌, ◌*◌, ◌/◌, ◌^◌, ◌<◌}
 use mathlib.Core.Path.{◌≡◌, ap, subst, ◌∙◌}
-use native.Mathlib.Nat.{le_refl}
 use native.Mathlib.Omega.{arith}
 use lib.ListN.{length, get_or}
 use lib.Pow.{pow_mono}
@@ -11,7 +10,7 @@ use Rattle.signals.proofs.input_word.Goals.{In-loop-l}
 use Rattle.signals.proofs.input_word.Goals as goal
 
 pub loop-l-init : goal.loop-l-init
-loop-l-init c = (le_refl _, packed_none c.args.patterns.now c.args.input)
+loop-l-init c = (packed_none c.args.patterns.now c.args.input)
 
 -- before a turn fewer than 64 patterns are packed, so there is room for one more
 module _ (c : In-loop-l) where
@@ -21,7 +20,7 @@ module _ (c : In-loop-l) where
       let patterns = c.args.patterns.now in
       omega (
         arith,
-        l.invariant.1.small,
+        l.invariant.small,
         pow_mono {i = length patterns - l.l} {j = 63} (omega (arith, c.requires.0)),
       )
 
@@ -36,12 +35,12 @@ loop-l-preserved c =
     let l = c.loop-l in
     let a = c.args in
     let e : l.l ≡ suc (l.l - 1) = omega arith in
-    let packed = subst (Packed a.patterns.now a.input l.word) e l.invariant.1 in
-    (omega arith, packed_more a.patterns.now a.input l.word (l.l - 1) (omega arith) packed)
+    let packed = subst (Packed a.patterns.now a.input l.word) e l.invariant in
+    rw c.from.ensures (packed_more a.patterns.now a.input l.word (l.l - 1) (omega arith) packed)
 
 pub returns : goal.returns
 returns c l =
     let w = c.loop-l in
     let a = c.args in
     let end : w.l + l ≡ l = omega arith in
-    w.invariant.1.bits l ∙ ap (λ (k : ℕ). is_odd (get_or a.patterns.now k 0 / 2 ^ a.input)) end
+    w.invariant.bits l ∙ ap (λ (k : ℕ). is_odd (get_or a.patterns.now k 0 / 2 ^ a.input)) end

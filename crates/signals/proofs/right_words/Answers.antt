@@ -17,7 +17,7 @@ loop-gate-init c =
     let a = c.args in
     let ws = a.area.now in
     let start = first-held ws a.patterns.now c.requires.0 c.input_words-words.result (rw c.inputs.ensures at c.input_words-words.ensures) in
-    (omega arith, rw (add-zero (layout.inputs ws)) start)
+    (rw (add-zero (layout.inputs ws)) start)
 
 -- a turn's gate
 module _ (c : In-loop-gate) where
@@ -26,17 +26,17 @@ module _ (c : In-loop-gate) where
 
 pub work_word-requires : goal.work_word-requires
 work_word-requires c =
-    (c.requires.0, inside (goal.at.work_word-requires c).In-loop-gate, c.loop-gate.invariant.1.long)
+    (c.requires.0, inside (goal.at.work_word-requires c).In-loop-gate, c.loop-gate.invariant.long)
 
 pub loop-gate-preserved : goal.loop-gate-preserved
 loop-gate-preserved c =
     let l = c.loop-gate in
     let a = c.args in
-    (omega arith, gate-held a.area.now a.patterns.now c.requires.0 l.words _ l.gate (inside (goal.at.loop-gate-preserved c).In-loop-gate) c.work_word.ensures l.invariant.1)
+    (gate-held a.area.now a.patterns.now c.requires.0 l.words _ l.gate (inside (goal.at.loop-gate-preserved c).In-loop-gate) c.work_word.ensures l.invariant)
 
 pub returns : goal.returns
 returns c =
     let at-gates = c.gates-gates in
     let l = c.loop-gate in
     let end : l.gate ≡ layout.gates c.args.area.now = omega (arith, at-gates.ensures) in
-    rw end at l.invariant.1
+    rw end at l.invariant

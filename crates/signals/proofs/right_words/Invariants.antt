@@ -1,4 +1,4 @@
-use Prim.Native.Nat.{◌+◌, ◌-◌, ◌≤◌}
+use Prim.Native.Nat.{◌+◌}
 use mathlib.Core.List.{[]}
 use Rattle.area.specs.Layout as layout
 use Rattle.area.specs.Net.{net_of}
@@ -6,7 +6,4 @@ use Rattle.signals.specs.Signals.{right_in, WordsHold}
 use Rattle.signals.proofs.right_words.Given as goal
 
 abbrev pub invariant-loop-gate : goal.invariant-loop-gate
-invariant-loop-gate l = (l.gate ≤ l.gates) × WordsHold (layout.inputs l.area + l.gate) (right_in (net_of l.area [] []) l.patterns) l.words
-
-abbrev pub decreases-loop-gate : goal.decreases-loop-gate
-decreases-loop-gate l = l.gates - l.gate
+invariant-loop-gate l = WordsHold (layout.inputs l.area + l.gate) (right_in (net_of l.area [] []) l.patterns) l.words
