@@ -2,41 +2,15 @@
 // field, 0 if it is refused, 1 if it is accepted, 2 if its chance is above 0.5, and its units.
 #![tactic(auto)]
 
-ghost use Rattle.std.specs.Prelude.{◌<◌};
-
 use chance::{FlipRead, FlipUnits};
 use std::io::{self, Read};
 
 // No run has as many vectors: a loop must be seen to end.
 const MOST: u64 = 1_000_000;
 
-#[derive(Clone, Copy)]
-enum Vector {
-    Agrees,
-    Differs,
-    Missing,
-}
-
-// All vectors up to the end agree, or the one with this number, counted from 0, differs.
-#[derive(Clone, Copy)]
-enum Tally {
-    Agree(u64),
-    Differs(u64),
-}
-
-fn wide(x: u8) -> u64
-    ensures { result < 256 }
-{
-    x as u64
-}
-
 // Whether a vector says this answer, and these units.
 fn says(v: [u8; 14], answer: u8, units: u32) -> bool {
-    let expected = wide(v[10])
-        + 256 * wide(v[11])
-        + 65_536 * wide(v[12])
-        + 16_777_216 * wide(v[13]);
-    v[9] == answer && expected == units as u64
+    v[9] == answer && u32::from_le_bytes([v[10], v[11], v[12], v[13]]) == units
 }
 
 // The conversion alone, which goes up to 1.
@@ -56,40 +30,35 @@ fn agrees(v: [u8; 14]) -> bool {
     }
 }
 
-fn next_vector<R: Read>(input: &mut R) -> io::Result<Vector> {
+// Whether the next vector agrees, if there is one.
+fn next_agrees<R: Read>(input: &mut R) -> io::Result<Option<bool>> {
     let mut v = [0u8; 14];
     let n = reading::read_full(input, &mut v)?;
     if n < 14 {
-        return Ok(Vector::Missing);
+        return Ok(None);
     }
-    if agrees(v) {
-        Ok(Vector::Agrees)
-    } else {
-        Ok(Vector::Differs)
-    }
+    Ok(Some(agrees(v)))
 }
 
-fn compare<R: Read>(input: &mut R) -> io::Result<Tally> {
-    let mut count: u64 = 0;
-    while count < MOST {
-        match next_vector(input)? {
-            Vector::Agrees => {
-                count += 1;
+// All vectors up to the end agree, and so many, or the one with this number, counted from 0, differs.
+fn compare<R: Read>(input: &mut R) -> io::Result<Result<u64, u64>> {
+    for number in 0..MOST {
+        match next_agrees(input)? {
+            Some(true) => {}
+            Some(false) => {
+                return Ok(Err(number));
             }
-            Vector::Differs => {
-                return Ok(Tally::Differs(count));
-            }
-            Vector::Missing => {
-                return Ok(Tally::Agree(count));
+            None => {
+                return Ok(Ok(number));
             }
         }
     }
-    Ok(Tally::Agree(count))
+    Ok(Ok(MOST))
 }
 
 fn main(rt: HostRuntime) -> io::Result<()> {
     match compare(&mut rt.stdin())? {
-        Tally::Agree(count) => println!(rt; "conversions {count} agree"),
-        Tally::Differs(number) => println!(rt; "conversion {number} differs"),
+        Ok(count) => println!(rt; "conversions {count} agree"),
+        Err(number) => println!(rt; "conversion {number} differs"),
     }
 }
