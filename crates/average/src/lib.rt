@@ -49,11 +49,17 @@ pub fn judge_weights(inputs: usize, weights: &[u32]) -> Result<(), Refusal>
     ensures { result ≡ weights_judgement inputs weights.now }
 {
     if weights.len() != 1 << inputs {
-        return Err(Refusal { cause: Cause::WrongWeights, place: 0 });
+        return Err(Refusal {
+            cause: Cause::WrongWeights,
+            place: 0,
+        });
     }
     refusal::judge_each(weights, area::LARGEST_WEIGHT, Cause::WrongWeights)?;
     if all_zero(weights) {
-        return Err(Refusal { cause: Cause::WrongWeights, place: 0 });
+        return Err(Refusal {
+            cause: Cause::WrongWeights,
+            place: 0,
+        });
     }
     Ok(())
 }

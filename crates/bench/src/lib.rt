@@ -2,7 +2,7 @@
 #![tactic(auto)]
 
 ghost use Rattle.std.specs.Prelude.{◌≡◌, ℕ, ◌+◌, ◌-◌, ◌/◌, ◌%◌, ◌^◌, ◌≤◌, ◌<◌, List, [], ◌++◌, length, get_or, take, drop};
-ghost use Rattle.refusal.specs.Judgement.{otherwise, unless_refused};
+ghost use Rattle.refusal.specs.Judgement.{Fine, otherwise, answer, unless_refused};
 ghost use Rattle.netlist.specs.Live.{readers, live_gates};
 ghost use Rattle.area.specs.Net.{net_of};
 ghost use Rattle.area.specs.Sum.{flip_sum};
@@ -15,68 +15,29 @@ ghost use Rattle.calls.specs.Calls.{open_live, average_of, left, counts_left};
 ghost use Rattle.written.specs.Image.{area_image_length};
 ghost use Rattle.written.specs.Call.{image_left};
 ghost use Rattle.bench.specs.Loaded.{room_of, loaded_judgement, loaded_words};
-ghost use Rattle.bench.specs.Answers.{opened, toggled, flip_set, gate_read, averaged, counted, image_written, NetlistAnswer};
+ghost use Rattle.bench.specs.Answers.{opened, gate_read, NetlistAnswer};
 
-use chance::FlipUnits;
 use netlist::Method;
 use refusal::{Cause, Refusal};
 
-// The answers: what a call has done, or why it has done nothing, by number and place.
+// What is read of a netlist: its pattern, and its reliability in units and as an f64.
 #[derive(Clone, Copy)]
-pub enum Opened {
-    Done(u32),
-    Refused(u8, u32),
+pub struct NetlistFigures {
+    pub pattern: u32,
+    pub units: u32,
+    pub reliability: f64,
 }
 
+// What is read of a gate: its right value, and its failure in units.
 #[derive(Clone, Copy)]
-pub enum Toggled {
-    Done,
-    Refused(u8, u32),
-}
-
-#[derive(Clone, Copy)]
-pub enum FlipSet {
-    Done,
-    Refused(u8, u32),
-}
-
-#[derive(Clone, Copy)]
-pub enum NetlistRead {
-    Done {
-        pattern: u32,
-        units: u32,
-        reliability: f64,
-    },
-    Refused(u8, u32),
-}
-
-#[derive(Clone, Copy)]
-pub enum Averaged {
-    Done(u32),
-    Refused(u8, u32),
-}
-
-#[derive(Clone, Copy)]
-pub enum GateRead {
-    Done { right: u32, failure: u32 },
-    Refused(u8, u32),
-}
-
-#[derive(Clone, Copy)]
-pub enum Counted {
-    Done,
-    Refused(u8, u32),
-}
-
-#[derive(Clone, Copy)]
-pub enum ImageWritten {
-    Done(u32),
-    Refused(u8, u32),
+pub struct GateFigures {
+    pub right: u32,
+    pub failure: u32,
 }
 
 // Refusal 13 of a loaded netlist that has passed 9; if it does not apply its words go into the area, every figure is worked out, and the
 // raw flip sum is stored.
-fn open_fitting(area: &mut [u32], words: &[u32], live: u32, sum: u64) -> Opened
+fn open_fitting(area: &mut [u32], words: &[u32], live: u32, sum: u64) -> Result<u32, Refusal>
     requires net_sound { NetSound words.now }
     requires by_index { (rest : List ℕ) → Workable (take (needed (gates words.now) (outputs words.now)) words.now ++ rest) }
     requires sum_value { sum ≡ flip_sum words.now }
@@ -86,16 +47,19 @@ fn open_fitting(area: &mut [u32], words: &[u32], live: u32, sum: u64) -> Opened
 {
     let needed = area::needed(area::gates(words), area::outputs(words));
     if area.len() < needed {
-        return Err(Refusal { cause: Cause::AreaTooShort, place: 0 });
+        return Err(Refusal {
+            cause: Cause::AreaTooShort,
+            place: 0,
+        });
     }
     area::store(area, 0, &words[..needed]);
     work::work_all(area);
     area::store_sum(area, sum);
-    Opened::Done(live)
+    Ok(live)
 }
 
 // Refusals 9 and 13 of a loaded image, and the work.
-fn open_loaded(area: &mut [u32], words: &[u32]) -> Opened
+fn open_loaded(area: &mut [u32], words: &[u32]) -> Result<u32, Refusal>
     requires net_sound { NetSound words.now }
     requires by_index { (rest : List ℕ) → Workable (take (needed (gates words.now) (outputs words.now)) words.now ++ rest) }
     ensures value { result ≡ opened (loaded_judgement words.now (length area.old)) (live_gates (net_of words.now [] [])) }
@@ -106,25 +70,19 @@ fn open_loaded(area: &mut [u32], words: &[u32]) -> Opened
     let gates = area::gates(words);
     let counted = live::count_live(words);
     let readers = counted.readers;
-    match live::judge_shared(&readers, inputs, gates) {
-        Ok(()) => {
-            let live = live::live_gates(&readers, inputs, gates);
-            open_fitting(area, words, live, counted.sum)
-        }
-        Judgement::Refused(number, place) => Opened::Refused(number, place),
-    }
+    live::judge_shared(&readers, inputs, gates)?;
+    let live = live::live_gates(&readers, inputs, gates);
+    open_fitting(area, words, live, counted.sum)
 }
 
 // Opens an image in the area: pattern 0. It answers the number of live gates.
-pub fn open(area: &mut [u32], image: &[u8]) -> Opened
+pub fn open(area: &mut [u32], image: &[u8]) -> Result<u32, Refusal>
     ensures value { result ≡ opened (judgement area.old (open_image image.now)) (open_live image.now) }
     ensures area_after { area.new ≡ left area.old (open_image image.now) }
 {
     let mut words = [0u32; area::MOST_WORDS];
-    match image::load(image, &mut words) {
-        Ok(()) => open_loaded(area, &words),
-        Judgement::Refused(number, place) => Opened::Refused(number, place),
-    }
+    image::load(image, &mut words)?;
+    open_loaded(area, &words)
 }
 
 // Refusal 10: the number named, of so many.
@@ -134,7 +92,10 @@ fn judge_named(number: u32, count: usize) -> Result<(), Refusal>
     if area::index(number) < count {
         Ok(())
     } else {
-        Err(Refusal { cause: Cause::NotThere, place: number })
+        Err(Refusal {
+            cause: Cause::NotThere,
+            place: number,
+        })
     }
 }
 
@@ -143,10 +104,8 @@ fn judge_counted(area: &[u32], word: usize, named: u32) -> Result<(), Refusal>
     requires { word < head_words }
     ensures { result ≡ otherwise (area_judgement area.now) (judged.named named (get_or area.now word 0)) }
 {
-    match rules::judge(area) {
-        Ok(()) => judge_named(named, area::index(area[word])),
-        Judgement::Refused(number, place) => Judgement::Refused(number, place),
-    }
+    rules::judge(area)?;
+    judge_named(named, area::index(area[word]))
 }
 
 fn judge_toggle(area: &[u32], input: u32) -> Result<(), Refusal>
@@ -164,10 +123,8 @@ fn judge_gate(area: &[u32], gate: u32) -> Result<(), Refusal>
 fn judge_average(area: &[u32], weights: &[u32]) -> Result<(), Refusal>
     ensures { result ≡ judgement area.now (take_average weights.now) }
 {
-    match rules::judge(area) {
-        Ok(()) => average::judge_weights(area::inputs(area), weights),
-        Judgement::Refused(number, place) => Judgement::Refused(number, place),
-    }
+    rules::judge(area)?;
+    average::judge_weights(area::inputs(area), weights)
 }
 
 // The largest pattern of so many inputs.
@@ -184,17 +141,19 @@ fn judge_listed(inputs: usize, gates: usize, patterns: &[u32], slots: usize) -> 
     ensures { result ≡ judged.counts_judgement inputs gates patterns.now slots }
 {
     if patterns.len() < 1 || area::MOST_LISTED < patterns.len() {
-        return Err(Refusal { cause: Cause::ListLength, place: 0 });
+        return Err(Refusal {
+            cause: Cause::ListLength,
+            place: 0,
+        });
     }
-    match refusal::judge_each(patterns, last_pattern(inputs), Cause::ListedPattern) {
-        Ok(()) => {
-            if slots < gates {
-                return Err(Refusal { cause: Cause::CountSlice, place: 0 });
-            }
-            Ok(())
-        }
-        Judgement::Refused(number, place) => Judgement::Refused(number, place),
+    refusal::judge_each(patterns, last_pattern(inputs), Cause::ListedPattern)?;
+    if slots < gates {
+        return Err(Refusal {
+            cause: Cause::CountSlice,
+            place: 0,
+        });
     }
+    Ok(())
 }
 
 // The area's own refusal, then the list's and the slice's: the same for either method.
@@ -202,35 +161,27 @@ fn judge_counts(area: &[u32], patterns: &[u32], slots: usize) -> Result<(), Refu
     ensures { result ≡ otherwise (area_judgement area.now)
         (judged.counts_judgement (layout.inputs area.now) (gates area.now) patterns.now slots) }
 {
-    match rules::judge(area) {
-        Ok(()) => judge_listed(area::inputs(area), area::gates(area), patterns, slots),
-        Judgement::Refused(number, place) => Judgement::Refused(number, place),
-    }
+    rules::judge(area)?;
+    judge_listed(area::inputs(area), area::gates(area), patterns, slots)
 }
 
 // Inverts one input; the gates behind it and the reliability follow.
-pub fn toggle_input(area: &mut [u32], input: u32) -> Toggled
-    ensures value { result ≡ toggled (judgement area.old (toggle_input input)) }
+pub fn toggle_input(area: &mut [u32], input: u32) -> Result<(), Refusal>
+    ensures value { result ≡ judgement area.old (toggle_input input) }
     ensures area_after { area.new ≡ left area.old (toggle_input input) }
 {
-    match judge_toggle(area, input) {
-        Ok(()) => {
-            work::toggle(area, area::index(input));
-            Toggled::Done
-        }
-        Judgement::Refused(number, place) => Toggled::Refused(number, place),
-    }
+    judge_toggle(area, input)?;
+    work::toggle(area, area::index(input));
+    Ok(())
 }
 
 // The last part of refusal 14 and refusal 10, of an area that has passed the others.
 fn judge_gate_summed(area: &[u32], gate: u32, sum: u64) -> Result<(), Refusal>
-    requires { (words_judgement area.now ≡ Judgement.Fine) × (sum ≡ flip_sum area.now) }
+    requires { (words_judgement area.now ≡ Fine) × (sum ≡ flip_sum area.now) }
     ensures { result ≡ judgement area.now (read_gate gate) }
 {
-    match rules::judge_sum(area, sum) {
-        Ok(()) => judge_named(gate, area::gates(area)),
-        Judgement::Refused(number, place) => Judgement::Refused(number, place),
-    }
+    rules::judge_sum(area, sum)?;
+    judge_named(gate, area::gates(area))
 }
 
 // The gate exists, and has so many live readers: refusals 11 and 22, else the flip is set, and with it the raw flip sum.
@@ -241,22 +192,17 @@ fn set_known_flip(
     field: [u8; 8],
     live: u32,
     sum: u64,
-) -> FlipSet
-    requires gate_value { judgement area.old (read_gate gate) ≡ Judgement.Fine }
+) -> Result<(), Refusal>
+    requires gate_value { judgement area.old (read_gate gate) ≡ Fine }
     requires live_value { (live ≡ readers (net_of area.old [] []) (layout.inputs area.old + gate)) × (sum ≡ flip_sum area.old) }
-    ensures value { result ≡ flip_set (judged.flip_judgement gate kind field) }
+    ensures value { result ≡ judged.flip_judgement gate kind field }
     ensures area_after { area.new ≡ left area.old (set_flip gate kind field) }
 {
-    match chance::read_units(kind, field) {
-        FlipUnits::Units(units) => {
-            let old = area::flip(area, area::index(gate));
-            work::set_units(area, area::index(gate), units);
-            area::store_sum(area, live::changed_sum(sum, live, old, units));
-            FlipSet::Done
-        }
-        FlipUnits::AboveHalf => Err(Refusal { cause: Cause::ChanceAboveHalf, place: gate }),
-        FlipUnits::Refused => Err(Refusal { cause: Cause::CallFlip, place: gate }),
-    }
+    let units = image::units_of_flip(kind, field, Cause::CallFlip, gate)?;
+    let old = area::flip(area, area::index(gate));
+    work::set_units(area, area::index(gate), units);
+    area::store_sum(area, live::changed_sum(sum, live, old, units));
+    Ok(())
 }
 
 // Sets a flip in an area that has passed all of 13 and 14 but for the sum.
@@ -267,123 +213,102 @@ fn set_counted(
     field: [u8; 8],
     counted: &[u32; area::MOST_SOURCES],
     sum: u64,
-) -> FlipSet
-    requires area_value { (words_judgement area.old ≡ Judgement.Fine) × (sum ≡ flip_sum area.old) }
+) -> Result<(), Refusal>
+    requires area_value { (words_judgement area.old ≡ Fine) × (sum ≡ flip_sum area.old) }
     requires by_index { (s : ℕ) → get_or counted.now s 0 ≡ readers (net_of area.old [] []) s }
-    ensures value { result ≡ flip_set (judgement area.old (set_flip gate kind field)) }
+    ensures value { result ≡ judgement area.old (set_flip gate kind field) }
     ensures area_after { area.new ≡ left area.old (set_flip gate kind field) }
 {
-    match judge_gate_summed(area, gate, sum) {
-        Ok(()) => {
-            let live = counted[area::inputs(area) + area::index(gate)];
-            set_known_flip(area, gate, kind, field, live, sum)
-        }
-        Judgement::Refused(number, place) => FlipSet::Refused(number, place),
-    }
+    judge_gate_summed(area, gate, sum)?;
+    let live = counted[area::inputs(area) + area::index(gate)];
+    set_known_flip(area, gate, kind, field, live, sum)
 }
 
 // Sets one gate's flip; this gate, those behind it, the reliability and the raw flip sum follow. Live readers are counted once, for the
 // judgement and for the sum.
-pub fn set_flip(area: &mut [u32], gate: u32, kind: u8, field: [u8; 8]) -> FlipSet
-    ensures value { result ≡ flip_set (judgement area.old (set_flip gate kind field)) }
+pub fn set_flip(area: &mut [u32], gate: u32, kind: u8, field: [u8; 8]) -> Result<(), Refusal>
+    ensures value { result ≡ judgement area.old (set_flip gate kind field) }
     ensures area_after { area.new ≡ left area.old (set_flip gate kind field) }
 {
-    match rules::judge_words(area) {
-        Ok(()) => {
-            let counted = live::count_live(area);
-            let readers = counted.readers;
-            set_counted(area, gate, kind, field, &readers, counted.sum)
-        }
-        Judgement::Refused(number, place) => FlipSet::Refused(number, place),
-    }
+    rules::judge_words(area)?;
+    let counted = live::count_live(area);
+    let readers = counted.readers;
+    set_counted(area, gate, kind, field, &readers, counted.sum)
 }
 
 // Reads the pattern and the reliability, in units and as an f64. It writes nothing.
-pub fn read_netlist(area: &[u32]) -> NetlistRead
+pub fn read_netlist(area: &[u32]) -> Result<NetlistFigures, Refusal>
     ensures { NetlistAnswer (judgement area.now read_netlist) (pattern area.now) (reliability_word area.now) result }
 {
-    match rules::judge(area) {
-        Ok(()) => {
-            let units = area[area::RELIABILITY];
-            NetlistRead::Done {
-                pattern: area[area::PATTERN],
-                units,
-                reliability: chance::units_as_f64(units),
-            }
-        }
-        Judgement::Refused(number, place) => NetlistRead::Refused(number, place),
-    }
+    rules::judge(area)?;
+    let units = area[area::RELIABILITY];
+    Ok(NetlistFigures {
+        pattern: area[area::PATTERN],
+        units,
+        reliability: chance::units_as_f64(units),
+    })
 }
 
 // Reads one gate's right value and failure. It writes nothing.
-pub fn read_gate(area: &[u32], gate: u32) -> GateRead
+pub fn read_gate(area: &[u32], gate: u32) -> Result<GateFigures, Refusal>
     ensures { result ≡ gate_read (judgement area.now (read_gate gate)) (figure area.now gate % 2)
         (figure area.now gate / 2) }
 {
-    match judge_gate(area, gate) {
-        Ok(()) => {
-            let word = area::figure(area, area::index(gate));
-            GateRead::Done {
-                right: word % 2,
-                failure: word / 2,
-            }
-        }
-        Judgement::Refused(number, place) => GateRead::Refused(number, place),
-    }
+    judge_gate(area, gate)?;
+    let word = area::figure(area, area::index(gate));
+    Ok(GateFigures {
+        right: word % 2,
+        failure: word / 2,
+    })
 }
 
 // The weighted average of the reliability over all patterns, weight q for pattern q. It leaves the figures worked out afresh.
-pub fn average(area: &mut [u32], weights: &[u32]) -> Averaged
-    ensures value { result ≡ averaged (judgement area.old (take_average weights.now))
+pub fn average(area: &mut [u32], weights: &[u32]) -> Result<u32, Refusal>
+    ensures value { result ≡ answer (judgement area.old (take_average weights.now))
         (average_of area.old weights.now) }
     ensures area_after { area.new ≡ left area.old (take_average weights.now) }
 {
-    match judge_average(area, weights) {
-        Ok(()) => Averaged::Done(average::average(area, weights)),
-        Judgement::Refused(number, place) => Averaged::Refused(number, place),
-    }
+    judge_average(area, weights)?;
+    Ok(average::average(area, weights))
 }
 
 // Judges, then counts by the method. The area is only read.
-fn count_seen(area: &[u32], patterns: &[u32], counts: &mut [u32], method: Method) -> Counted
-    ensures value { result ≡ counted (judgement area.now (count_seen method patterns.now (length counts.old))) }
+fn count_seen(
+    area: &[u32],
+    patterns: &[u32],
+    counts: &mut [u32],
+    method: Method,
+) -> Result<(), Refusal>
+    ensures value { result ≡ judgement area.now (count_seen method patterns.now (length counts.old)) }
     ensures counts_after { counts.new ≡ counts_left area.now method patterns.now counts.old }
 {
-    match judge_counts(area, patterns, counts.len()) {
-        Ok(()) => {
-            counts::count(area, patterns, counts, method);
-            Counted::Done
-        }
-        Judgement::Refused(number, place) => Counted::Refused(number, place),
-    }
+    judge_counts(area, patterns, counts.len())?;
+    counts::count(area, patterns, counts, method);
+    Ok(())
 }
 
 // Counts, gate by gate, the listed patterns in which its flip alone is seen at an output, by flipping it. Entries past one a gate stay as they were.
-pub fn counts_by_flip(area: &[u32], patterns: &[u32], counts: &mut [u32]) -> Counted
-    ensures value { result ≡ counted (judgement area.now (count_seen Method.Flip patterns.now (length counts.old))) }
+pub fn counts_by_flip(area: &[u32], patterns: &[u32], counts: &mut [u32]) -> Result<(), Refusal>
+    ensures value { result ≡ judgement area.now (count_seen Method.Flip patterns.now (length counts.old)) }
     ensures counts_after { counts.new ≡ counts_left area.now Method.Flip patterns.now counts.old }
 {
     count_seen(area, patterns, counts, Method::Flip)
 }
 
 // The counts by masks that are passed back from the outputs: on every area that was opened they are those of the flips.
-pub fn counts_by_mask(area: &[u32], patterns: &[u32], counts: &mut [u32]) -> Counted
-    ensures value { result ≡ counted (judgement area.now (count_seen Method.Mask patterns.now (length counts.old))) }
+pub fn counts_by_mask(area: &[u32], patterns: &[u32], counts: &mut [u32]) -> Result<(), Refusal>
+    ensures value { result ≡ judgement area.now (count_seen Method.Mask patterns.now (length counts.old)) }
     ensures counts_after { counts.new ≡ counts_left area.now Method.Mask patterns.now counts.old }
 {
     count_seen(area, patterns, counts, Method::Mask)
 }
 
 // Writes the image of the area over the first bytes of a slice, bytes past it as they were, and answers its length. The area is only read.
-pub fn write_image(area: &[u32], image: &mut [u8]) -> ImageWritten
-    ensures value { result ≡ image_written (judgement area.now (write_image (length image.old))) (area_image_length area.now) }
+pub fn write_image(area: &[u32], image: &mut [u8]) -> Result<u32, Refusal>
+    ensures value { result ≡ answer (judgement area.now (write_image (length image.old))) (area_image_length area.now) }
     ensures image_after { image.new ≡ image_left area.now image.old }
 {
-    match written::judge_write(area, image.len()) {
-        Ok(()) => {
-            written::write_image(area, image);
-            ImageWritten::Done(written::image_length(area) as u32)
-        }
-        Judgement::Refused(number, place) => ImageWritten::Refused(number, place),
-    }
+    written::judge_write(area, image.len())?;
+    written::write_image(area, image);
+    Ok(written::image_length(area) as u32)
 }

@@ -4,25 +4,17 @@ use mathlib.Core.List.{List}
 use mathlib.Core.Path.{◌≡◌, refl, sym, ap, ◌∙◌}
 use native.Mathlib.Omega.{arith}
 use Rattle.refusal.specs.Judgement.{Judgement}
-use Rattle.refusal.specs.Judgement.{Fine, refused}
+use Rattle.refusal.specs.Judgement.{Fine}
 use Rattle.calls.specs.Judgements.{image_judgement}
 use Rattle.calls.proofs.Judgements.{only-judged}
 use Rattle.comparison.specs.declared.Image.{Image}
 use Rattle.comparison.specs.declared.Image.TheVariants.{First, Second}
-use Rattle.comparison.specs.declared.Compared.{Compared}
-use Rattle.comparison.specs.declared.ErrorRead.TheVariants.{Done as ErrorDone, Refused as ErrorRefused}
-use Rattle.comparison.specs.Images.{error_read, compared_if, compared}
+use Rattle.comparison.specs.Standing.{Compared}
+use Rattle.comparison.specs.Images.{compared_if, compared}
 use Rattle.bench_c.specs.Codes.{code}
 use Rattle.bench_c.specs.Comparing.{image_number, compared_code}
 use Rattle.bench_c.proofs.Zero.{positive-code}
-use Rattle.refusal.specs.declared.Cause.{Cause}
 use Rattle.std.specs.Prelude.{Err}
-
-pub error-told : (j : Judgement) (v w : ℕ)
-    → ((m n : ℕ) → error_read j v w ≡ ErrorDone m n → (j ≡ Fine) × (m ≡ v) × (n ≡ w))
-    × ((a : Cause) (p : ℕ) → error_read j v w ≡ ErrorRefused a p → j ≡ refused a p)
-error-told Fine v w = (λ m n e. (refl, cc, cc), λ a p e. cc)
-error-told (Err why) v w = (λ m n e. (cc, cc, cc), λ a p e. cc)
 
 -- of every image
 pub zero-is-known : (bs : List ℕ) → code (image_judgement bs) ≡ 0 → image_judgement bs ≡ Fine

@@ -3,12 +3,12 @@ use Rattle.std.specs.Prelude.{ℕ, ◌+◌, ◌*◌, List, [], ◌∷◌, ◌++�
 use Rattle.comparison.specs.declared.Verdict.{Verdict}
 use Rattle.comparison.specs.declared.Module.{Module}
 use Rattle.comparison.specs.declared.Counts.{Counts}
-use Rattle.comparison.specs.declared.Patterns.{Patterns}
-use Rattle.comparison.specs.declared.Patterns.TheVariants.{Counted, Unlike}
+use Rattle.comparison.specs.Standing.{Patterns}
+use Rattle.std.specs.Prelude.{Some, None, Ok, Err}
 use Rattle.comparison.specs.declared.Image.{Image}
 use Rattle.comparison.specs.declared.Image.TheVariants.{First, Second}
-use Rattle.comparison.specs.declared.Compared.{Compared}
-use Rattle.comparison.specs.declared.Compared.TheVariants.{Done, Refused}
+use Rattle.comparison.specs.Standing.{Compared}
+use Rattle.refusal.specs.Judgement.{number_of}
 use Rattle.comparison.specs.Standing.{verdict_number}
 use Rattle.bench_c.specs.Codes.{refusal_code}
 
@@ -22,13 +22,13 @@ image_code image number place = image_number image * 1_099_511_627_776 + refusal
 
 -- 0 where the images are compared
 abbrev pub compared_code : Compared → ℕ
-compared_code (Done v m k p) = 0
-compared_code (Refused image number place) = image_code image number place
+compared_code (Ok made) = 0
+compared_code (Err why) = image_code why.image (number_of why.refusal.cause) why.refusal.place
 
 -- no counts where the inputs are unlike
 abbrev pub counts_of : Patterns → Counts
-counts_of (Counted n) = n
-counts_of Unlike = record { first = 0; second = 0; neither = 0 }
+counts_of (Some n) = n
+counts_of None = record { first = 0; second = 0; neither = 0 }
 
 -- the result's numbers in their order: verdict, the first module, the second, counts
 abbrev pub module_words : Module → List ℕ
@@ -42,5 +42,5 @@ result_words v m k n = verdict_number v ∷ (module_words m ++ (module_words k +
 
 -- what it holds afterwards
 abbrev pub result_left : Compared → List ℕ → List ℕ
-result_left (Done v m k p) stood = result_words v m k (counts_of p)
-result_left (Refused image number place) stood = stood
+result_left (Ok made) stood = result_words made.verdict made.first made.second (counts_of made.patterns)
+result_left (Err why) stood = stood

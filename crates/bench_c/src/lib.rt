@@ -3,13 +3,12 @@
 #![tactic(auto)]
 
 ghost use Rattle.std.specs.Prelude.{◌≡◌, length, ◌/◌, ◌%◌};
-ghost use Rattle.refusal.specs.Judgement.{unless_refused};
+ghost use Rattle.refusal.specs.Judgement.{number_of, unless_refused};
 ghost use Rattle.flips.specs.Written.{field_bytes};
 ghost use Rattle.area.specs.Layout.{pattern as pattern_word, reliability_word, figure};
 ghost use Rattle.calls.specs.Judgements.{open_image, toggle_input, set_flip, read_netlist, read_gate, take_average, count_seen, write_image, judgement};
 ghost use Rattle.calls.specs.Judgements.{image_judgement};
 ghost use Rattle.calls.specs.Calls.{open_live, average_of, left, counts_left};
-ghost use Rattle.bench.specs.Answers.{counted};
 ghost use Rattle.written.specs.Image.{area_image_length};
 ghost use Rattle.written.specs.Call.{image_left};
 ghost use Rattle.blif.specs.Reading.{text_lines, model_length, blif_refusal, blif_left};
@@ -21,18 +20,25 @@ ghost use Rattle.shared.specs.Shared.{shared_image_judgement, image_shared};
 ghost use Rattle.bench_c.specs.Comparing.{counts_of, image_code, compared_code, result_words, result_left};
 ghost use Rattle.bench_c.specs.Codes.{refusal_code, code, FloatBy};
 
-use bench::{Averaged, Counted, FlipSet, GateRead, ImageWritten, NetlistRead, Opened, Toggled};
-use blif::BlifRead;
-use comparison::{Compared, Counts, ErrorRead, Image, Module, Patterns, Verdict};
+use comparison::{Comparison, Counts, Image, Module, RefusedImage, Verdict};
 use netlist::Method;
-use refusal::Judgement;
-use shared::SharedRead;
+use refusal::Refusal;
 
 // A refusal as one number: the place fits below 2^32, so C can part the two. No refusal gives 0 (proofs/Zero.antt).
-fn refused(number: u8, place: u32) -> u64
-    ensures { result ≡ refusal_code number place }
+fn refused(refusal: Refusal) -> u64
+    ensures { result ≡ refusal_code (number_of refusal.cause) refusal.place }
 {
-    number as u64 * 4_294_967_296 + place as u64
+    refusal.cause.number() as u64 * 4_294_967_296 + refusal.place as u64
+}
+
+// The number of a call that answers no value.
+fn code_of(judged: Result<(), Refusal>) -> u64
+    ensures { result ≡ code judged }
+{
+    match judged {
+        Ok(()) => 0,
+        Err(refusal) => refused(refusal),
+    }
 }
 
 // Opens an image; the number of live gates goes to `live`.
@@ -43,13 +49,12 @@ pub extern "C" fn bench_open(area: &mut [u32], image: &[u8], live: &mut u32) -> 
         (open_live image.now) live.old }
     ensures area_after { area.new ≡ left area.old (open_image image.now) }
 {
-    let answer = bench::open(area, image);
-    match answer {
-        Opened::Done(gates) => {
+    match bench::open(area, image) {
+        Ok(gates) => {
             *live = gates;
             0
         }
-        Opened::Refused(number, place) => refused(number, place),
+        Err(refusal) => refused(refusal),
     }
 }
 
@@ -59,11 +64,7 @@ pub extern "C" fn bench_toggle_input(area: &mut [u32], input: u32) -> u64
     ensures value { result ≡ code (judgement area.old (toggle_input input)) }
     ensures area_after { area.new ≡ left area.old (toggle_input input) }
 {
-    let answer = bench::toggle_input(area, input);
-    match answer {
-        Toggled::Done => 0,
-        Toggled::Refused(number, place) => refused(number, place),
-    }
+    code_of(bench::toggle_input(area, input))
 }
 
 // Sets one gate's flip. C passes no array by value, so the eight bytes of the field come as one little-endian number.
@@ -72,11 +73,7 @@ pub extern "C" fn bench_set_flip(area: &mut [u32], gate: u32, kind: u8, field: u
     ensures value { result ≡ code (judgement area.old (set_flip gate kind (field_bytes field))) }
     ensures area_after { area.new ≡ left area.old (set_flip gate kind (field_bytes field)) }
 {
-    let answer = bench::set_flip(area, gate, kind, flips::field_bytes(field));
-    match answer {
-        FlipSet::Done => 0,
-        FlipSet::Refused(number, place) => refused(number, place),
-    }
+    code_of(bench::set_flip(area, gate, kind, flips::field_bytes(field)))
 }
 
 // Reads the pattern and the reliability, in units and as an f64.
@@ -95,19 +92,14 @@ pub extern "C" fn bench_read_netlist(
     ensures float_by { FloatBy (judgement area.now read_netlist) (reliability_word area.now) reliability.old
         reliability.new }
 {
-    let answer = bench::read_netlist(area);
-    match answer {
-        NetlistRead::Done {
-            pattern: bits,
-            units: count,
-            reliability: value,
-        } => {
-            *pattern = bits;
-            *units = count;
-            *reliability = value;
+    match bench::read_netlist(area) {
+        Ok(figures) => {
+            *pattern = figures.pattern;
+            *units = figures.units;
+            *reliability = figures.reliability;
             0
         }
-        NetlistRead::Refused(number, place) => refused(number, place),
+        Err(refusal) => refused(refusal),
     }
 }
 
@@ -125,17 +117,13 @@ pub extern "C" fn bench_read_gate(
     ensures failure_after { failure.new ≡ unless_refused (judgement area.now (read_gate gate)) (figure area.now gate / 2)
         failure.old }
 {
-    let answer = bench::read_gate(area, gate);
-    match answer {
-        GateRead::Done {
-            right: value,
-            failure: units,
-        } => {
-            *right = value;
-            *failure = units;
+    match bench::read_gate(area, gate) {
+        Ok(figures) => {
+            *right = figures.right;
+            *failure = figures.failure;
             0
         }
-        GateRead::Refused(number, place) => refused(number, place),
+        Err(refusal) => refused(refusal),
     }
 }
 
@@ -147,23 +135,12 @@ pub extern "C" fn bench_average(area: &mut [u32], weights: &[u32], units: &mut u
         (average_of area.old weights.now) units.old }
     ensures area_after { area.new ≡ left area.old (take_average weights.now) }
 {
-    let answer = bench::average(area, weights);
-    match answer {
-        Averaged::Done(average) => {
+    match bench::average(area, weights) {
+        Ok(average) => {
             *units = average;
             0
         }
-        Averaged::Refused(number, place) => refused(number, place),
-    }
-}
-
-// The code of either method's answer: the judgement that it tells.
-fn count_code(answer: Counted) -> u64
-    ensures { (judged : Judgement) → answer ≡ counted judged → result ≡ code judged }
-{
-    match answer {
-        Counted::Done => 0,
-        Counted::Refused(number, place) => refused(number, place),
+        Err(refusal) => refused(refusal),
     }
 }
 
@@ -173,7 +150,7 @@ pub extern "C" fn bench_counts_by_flip(area: &[u32], patterns: &[u32], counts: &
     ensures value { result ≡ code (judgement area.now (count_seen Method.Flip patterns.now (length counts.old))) }
     ensures counts_after { counts.new ≡ counts_left area.now Method.Flip patterns.now counts.old }
 {
-    count_code(bench::counts_by_flip(area, patterns, counts))
+    code_of(bench::counts_by_flip(area, patterns, counts))
 }
 
 // The counts by masks that are passed back from the outputs.
@@ -182,7 +159,7 @@ pub extern "C" fn bench_counts_by_mask(area: &[u32], patterns: &[u32], counts: &
     ensures value { result ≡ code (judgement area.now (count_seen Method.Mask patterns.now (length counts.old))) }
     ensures counts_after { counts.new ≡ counts_left area.now Method.Mask patterns.now counts.old }
 {
-    count_code(bench::counts_by_mask(area, patterns, counts))
+    code_of(bench::counts_by_mask(area, patterns, counts))
 }
 
 // Writes the image of the area into `image`; its length goes to `bytes`.
@@ -193,13 +170,12 @@ pub extern "C" fn bench_write_image(area: &[u32], image: &mut [u8], bytes: &mut 
         (area_image_length area.now) bytes.old }
     ensures image_after { image.new ≡ image_left area.now image.old }
 {
-    let answer = bench::write_image(area, image);
-    match answer {
-        ImageWritten::Done(written) => {
+    match bench::write_image(area, image) {
+        Ok(written) => {
             *bytes = written;
             0
         }
-        ImageWritten::Refused(number, place) => refused(number, place),
+        Err(refusal) => refused(refusal),
     }
 }
 
@@ -211,13 +187,12 @@ pub extern "C" fn bench_read_blif(text: &[u8], image: &mut [u8], bytes: &mut u32
         (model_length (text_lines text.now)) bytes.old }
     ensures image_after { image.new ≡ blif_left text.now image.old }
 {
-    let answer = blif::read_blif(text, image);
-    match answer {
-        BlifRead::Done(written) => {
+    match blif::read_blif(text, image) {
+        Ok(written) => {
             *bytes = written;
             0
         }
-        BlifRead::Refused(number, place) => refused(number, place),
+        Err(refusal) => refused(refusal),
     }
 }
 
@@ -229,17 +204,13 @@ pub extern "C" fn bench_error_of_image(image: &[u8], halves: &mut u32, live: &mu
         halves.old }
     ensures live_after { live.new ≡ unless_refused (image_judgement image.now) (open_live image.now) live.old }
 {
-    let answer = comparison::error_of_image(image);
-    match answer {
-        ErrorRead::Done {
-            halves: error,
-            live: gates,
-        } => {
-            *halves = error;
-            *live = gates;
+    match comparison::error_of_image(image) {
+        Ok(known) => {
+            *halves = known.halves;
+            *live = known.live;
             0
         }
-        ErrorRead::Refused(number, place) => refused(number, place),
+        Err(refusal) => refused(refusal),
     }
 }
 
@@ -250,13 +221,12 @@ pub extern "C" fn bench_shared_reliability(image: &[u8], pattern: u32, units: &m
     ensures units_after { units.new ≡ unless_refused (shared_image_judgement image.now) (image_shared image.now pattern)
         units.old }
 {
-    let answer = shared::shared_reliability(image, pattern);
-    match answer {
-        SharedRead::Done(reliability) => {
+    match shared::shared_reliability(image, pattern) {
+        Ok(reliability) => {
             *units = reliability;
             0
         }
-        SharedRead::Refused(number, place) => refused(number, place),
+        Err(refusal) => refused(refusal),
     }
 }
 
@@ -271,17 +241,14 @@ fn verdict_number(verdict: Verdict) -> u32
 }
 
 // Where the inputs are unlike no pattern is counted, and all three are 0.
-fn pattern_counts(patterns: Patterns) -> Counts
+fn pattern_counts(patterns: Option<Counts>) -> Counts
     ensures { result ≡ counts_of patterns }
 {
-    match patterns {
-        Patterns::Counted(counts) => counts,
-        Patterns::Unlike => Counts {
-            first: 0,
-            second: 0,
-            neither: 0,
-        },
-    }
+    patterns.unwrap_or(Counts {
+        first: 0,
+        second: 0,
+        neither: 0,
+    })
 }
 
 // Images 1 and 2 from bit 40 on.
@@ -290,22 +257,25 @@ const FIRST_IMAGE: u64 = 1_099_511_627_776;
 const SECOND_IMAGE: u64 = 2_199_023_255_552;
 
 // A refusal of one of two images as one number: the image stands above number and place.
-fn refused_image(image: Image, number: u8, place: u32) -> u64
-    ensures { result ≡ image_code image number place }
+fn refused_image(why: RefusedImage) -> u64
+    ensures { result ≡ image_code why.image (number_of why.refusal.cause) why.refusal.place }
 {
-    let code = refused(number, place);
-    match image {
+    let code = refused(why.refusal);
+    match why.image {
         Image::First => FIRST_IMAGE + code,
         Image::Second => SECOND_IMAGE + code,
     }
 }
 
 // The numbers of bench_comparison in include/bench.h, in its order.
-fn result_words(verdict: Verdict, first: Module, second: Module, counts: Counts) -> [u32; 16]
-    ensures { result ≡ result_words verdict first second counts }
+fn result_words(made: Comparison) -> [u32; 16]
+    ensures { result ≡ result_words made.verdict made.first made.second (counts_of made.patterns) }
 {
+    let first = made.first;
+    let second = made.second;
+    let counts = pattern_counts(made.patterns);
     [
-        verdict_number(verdict),
+        verdict_number(made.verdict),
         first.inputs,
         first.gates,
         first.outputs,
@@ -330,12 +300,11 @@ pub extern "C" fn bench_compare(first: &[u8], second: &[u8], res: &mut [u32; 16]
     ensures value { result ≡ compared_code (compared first.now second.now) }
     ensures res_after { res.new ≡ result_left (compared first.now second.now) res.old }
 {
-    let answer = comparison::compare(first, second);
-    match answer {
-        Compared::Done(verdict, one, other, patterns) => {
-            *res = result_words(verdict, one, other, pattern_counts(patterns));
+    match comparison::compare(first, second) {
+        Ok(made) => {
+            *res = result_words(made);
             0
         }
-        Compared::Refused(image, number, place) => refused_image(image, number, place),
+        Err(why) => refused_image(why),
     }
 }

@@ -15,6 +15,7 @@ use Rattle.book.proofs.Shown.{Shown}
 use Rattle.book.proofs.Open.{opened}
 use Rattle.book.proofs.Calls.{shown-open, shown-toggle, shown-set, shown_read, shown-read-gate, shown-average, shown-counts, shown-write}
 use Rattle.std.specs.Prelude.{Err}
+use Rattle.refusal.specs.declared.Cause.TheVariants.{AreaRule}
 
 -- every call of the list
 pub shown : (call : Call) → Shown call
@@ -34,7 +35,7 @@ module _ (size : ℕ) (ws : List ℕ) (b : Book) (call : Call) (agree : Agree si
       let same = it.judged size ws b agree in
       record {
         judged = same;
-        never_14 = λ place e. (it.only b size 14 place (sym same ∙ e)).1 refl;
+        never_14 = λ place e. (it.only b size AreaRule place (sym same ∙ e)).1 refl;
         answer = λ e. it.answers size ws b agree (sym same ∙ e);
       }
 

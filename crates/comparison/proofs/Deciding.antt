@@ -18,9 +18,9 @@ use Rattle.comparison.specs.declared.Verdict.{Verdict}
 use Rattle.comparison.specs.declared.Verdict.TheVariants.{First, Second, Undecided}
 use Rattle.comparison.specs.declared.Module.{Module}
 use Rattle.comparison.specs.declared.Counts.{Counts}
-use Rattle.comparison.specs.declared.Patterns.{Patterns}
-use Rattle.comparison.specs.declared.Patterns.TheVariants.{Counted, Unlike}
-use Rattle.comparison.specs.declared.Compared.TheVariants.{Done}
+use Rattle.comparison.specs.Standing.{Patterns}
+use Rattle.std.specs.Prelude.{Some, None}
+use Rattle.comparison.specs.Standing.{done}
 use Rattle.comparison.specs.Standing.{beyond, verdict, same_verdict, both_errors, how_often, counts_by, pattern_verdict, patterns_between, averages_verdict}
 use Rattle.comparison.specs.Standing.{answered}
 
@@ -76,10 +76,10 @@ patterns-same : (m k : Module) (r s t u : ℕ → ℕ) → ((q : ℕ) → q < 2 
     → patterns_between m r k s ≡ patterns_between m t k u
 unfolding patterns_between
 patterns-same m k r s t u e g =
-    counted_same (eqb m.inputs k.inputs) _ _ Unlike
+    counted_same (eqb m.inputs k.inputs) _ _ None
     (λ same.
     let alike : m.inputs ≡ k.inputs = eqb-true m.inputs k.inputs same in
-    ap Counted
+    ap Some
     (counts_same (pattern_verdict m r k s) (pattern_verdict m t k u) (2 ^ m.inputs)
     (λ q less. ap₂ (verdict (both_errors m k)) (e q less) (g q (subst (λ (n : ℕ). q < 2 ^ n) alike less)))))
 
@@ -123,4 +123,4 @@ module-is m k e =
 -- only the figures of patterns that there are matter
 pub answered-same : (m k : Module) (r s t u : ℕ → ℕ) → ((q : ℕ) → q < 2 ^ m.inputs → r q ≡ t q) → ((q : ℕ) → q < 2 ^ k.inputs → s q ≡ u q)
     → answered m r k s ≡ answered m t k u
-answered-same m k r s t u e g = ap (Done (averages_verdict m k) m k) (patterns-same m k r s t u e g)
+answered-same m k r s t u e g = ap (done (averages_verdict m k) m k) (patterns-same m k r s t u e g)

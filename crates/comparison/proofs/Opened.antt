@@ -5,7 +5,7 @@ use mathlib.Core.Path.{◌≡◌, refl, sym, ap, ◌∙◌}
 use native.Mathlib.Omega.{arith}
 use lib.ListN.{length, drop, length-replicate}
 use Rattle.refusal.specs.Judgement.{Judgement}
-use Rattle.refusal.specs.Judgement.{Fine, refused}
+use Rattle.refusal.specs.Judgement.{Fine}
 use Rattle.bound.specs.Sharp.{error_halves}
 use Rattle.area.specs.Layout.{most_words, most_inputs, inputs, gates, outputs, needed}
 use Rattle.area.specs.Rules.{Workable}
@@ -28,19 +28,23 @@ use Rattle.book.specs.Book.{image_book}
 use Rattle.book.proofs.Agree.{Agree}
 use Rattle.book.proofs.Open.{opened as opened-agree}
 use Rattle.errors.proofs.Charges.{same-halves}
-use Rattle.bench.specs.declared.Opened.{Opened}
-use Rattle.bench.specs.declared.Opened.TheVariants.{Done, Refused as OpenRefused}
+use Rattle.std.specs.Prelude.{Result, Ok, Err}
+use Rattle.refusal.specs.declared.Refusal.{Refusal}
 use Rattle.bench.specs.Answers.{opened}
 use Rattle.bench.proofs.Answered.{open_told}
 use Rattle.comparison.specs.declared.Module.{Module}
-use Rattle.comparison.specs.declared.ModuleRead.TheVariants.{Done as ModuleDone, Refused as ModuleRefused}
-use Rattle.comparison.specs.Images.{new_area, opened_words, module_read}
-use Rattle.refusal.specs.declared.Cause.{Cause}
+use Rattle.comparison.specs.declared.Image.{Image}
+use Rattle.refusal.proofs.Laws.{answer-told}
+use Rattle.comparison.specs.Images.{new_area, opened_words, module_read, with_image}
 
 pub module-told : (j : Judgement) (m : Module)
-    → ((k : Module) → module_read j m ≡ ModuleDone k → (j ≡ Fine) × (k ≡ m)) × ((a : Cause) (p : ℕ) → module_read j m ≡ ModuleRefused a p → j ≡ refused a p)
-module-told Fine m = (λ k e. (refl, cc), λ a p e. cc)
-module-told (refused b q) m = (λ k e. (cc, cc), λ a p e. cc)
+    → ((k : Module) → module_read j m ≡ Ok k → (j ≡ Fine) × (k ≡ m)) × ((why : Refusal) → module_read j m ≡ Err why → j ≡ Err why)
+module-told j m = answer-told j m (module_read j m) refl
+
+-- a module that was read from one of two images
+pub module-read : (image : Image) (r : Result Module Refusal) (m : Module) → with_image image r ≡ Ok m → r ≡ Ok m
+module-read image (Ok k) m e = cc
+module-read image (Err why) m e = cc
 
 module _ (bs : List ℕ) where
   abbrev before : List ℕ
@@ -64,15 +68,15 @@ module _ (bs : List ℕ) where
   judged = ap (open_judgement bs) (length-replicate {A = ℕ} most_words 0) ∙ judged-in-most bs
 
   -- what the call's answer says of the image, and the words that it leaves
-  pub opened-done : (answer : Opened) (n : ℕ) → answer ≡ opened (open_judgement bs (length new_area)) (open_live bs) → answer ≡ Done n
+  pub opened-done : (answer : Result ℕ Refusal) (n : ℕ) → answer ≡ opened (open_judgement bs (length new_area)) (open_live bs) → answer ≡ Ok n
       → (image_judgement bs ≡ Fine) × (n ≡ open_live bs)
   opened-done answer n e told =
       let both = (open_told (open_judgement bs (length new_area)) (open_live bs)).0 n (sym e ∙ told) in
       (sym judged ∙ both.0, both.1)
 
-  pub opened-refused : (answer : Opened) (a p : ℕ) → answer ≡ opened (open_judgement bs (length new_area)) (open_live bs) → answer ≡ OpenRefused a p
-      → image_judgement bs ≡ refused a p
-  opened-refused answer a p e told = sym judged ∙ (open_told (open_judgement bs (length new_area)) (open_live bs)).1 a p (sym e ∙ told)
+  pub opened-refused : (answer : Result ℕ Refusal) (why : Refusal) → answer ≡ opened (open_judgement bs (length new_area)) (open_live bs) → answer ≡ Err why
+      → image_judgement bs ≡ Err why
+  opened-refused answer why e told = sym judged ∙ (open_told (open_judgement bs (length new_area)) (open_live bs)).1 why (sym e ∙ told)
 
   pub opened-left : image_judgement bs ≡ Fine → left new_area (open_image bs) ≡ opened_words bs
   unfolding opened_words

@@ -1,15 +1,15 @@
 -- Which of two figures is surely higher, and which of two modules stands higher. Figures are in units, errors in half units.
-use Rattle.std.specs.Prelude.{ℕ, ◌+◌, ◌*◌, ◌^◌, Bool, cond, ltb, eqb}
+use Rattle.std.specs.Prelude.{ℕ, ◌+◌, ◌*◌, ◌^◌, Bool, cond, ltb, eqb, Option, Some, None, Result, Ok, Err}
 use Rattle.lists.specs.Lists.{sum_below}
 use Rattle.figure.specs.Figure.{bit_of}
 use Rattle.comparison.specs.declared.Verdict.{Verdict}
 use Rattle.comparison.specs.declared.Verdict.TheVariants.{First, Second, Undecided}
 use Rattle.comparison.specs.declared.Module.{Module}
 use Rattle.comparison.specs.declared.Counts.{Counts}
-use Rattle.comparison.specs.declared.Patterns.{Patterns}
-use Rattle.comparison.specs.declared.Patterns.TheVariants.{Counted, Unlike}
-use Rattle.comparison.specs.declared.Compared.{Compared}
-use Rattle.comparison.specs.declared.Compared.TheVariants.{Done}
+use Rattle.comparison.specs.declared.Comparison.{Comparison}
+use Rattle.comparison.specs.declared.RefusedImage.{RefusedImage}
+use Rattle.comparison.specs.declared.Image.{Image}
+use Rattle.refusal.specs.declared.Cause.{Cause}
 
 -- two errors of 32 bits and 2 stay below it
 abbrev pub slack_limit : ℕ
@@ -50,9 +50,23 @@ counts_by f k = record { first = how_often First f k; second = how_often Second 
 abbrev pub pattern_verdict : Module → (ℕ → ℕ) → Module → (ℕ → ℕ) → ℕ → Verdict
 pattern_verdict m r k s q = verdict (both_errors m k) (r q) (s q)
 
+-- modules with unlike inputs have no patterns in common
+abbrev pub Patterns : Type 0
+Patterns = Option Counts
+
 -- the patterns are counted where both modules have the same number of inputs
 unfoldable pub patterns_between : Module → (ℕ → ℕ) → Module → (ℕ → ℕ) → Patterns
-patterns_between m r k s = cond (eqb m.inputs k.inputs) (Counted (counts_by (pattern_verdict m r k s) (2 ^ m.inputs))) Unlike
+patterns_between m r k s = cond (eqb m.inputs k.inputs) (Some (counts_by (pattern_verdict m r k s) (2 ^ m.inputs))) None
+
+-- the answer of a comparison: its results, or the image that is refused, with cause and place
+abbrev pub Compared : Type 0
+Compared = Result Comparison RefusedImage
+
+abbrev pub done : Verdict → Module → Module → Patterns → Compared
+done v m k p = Ok (record { verdict = v; first = m; second = k; patterns = p })
+
+abbrev pub refused_image : Image → Cause → ℕ → Compared
+refused_image image cause place = Err (record { image = image; refusal = record { cause = cause; place = place } })
 
 abbrev pub answered : Module → (ℕ → ℕ) → Module → (ℕ → ℕ) → Compared
-answered m r k s = Done (averages_verdict m k) m k (patterns_between m r k s)
+answered m r k s = done (averages_verdict m k) m k (patterns_between m r k s)

@@ -1,7 +1,7 @@
 // Which of two modules stands higher: the average reliability of each, how far it may be from the exact one, and whether that decides.
 #![tactic(auto)]
 
-ghost use Rattle.std.specs.Prelude.{◌≡◌, Bool, ℕ, ◌+◌, ◌^◌, ◌<◌, ◌≤◌, length, get_or};
+ghost use Rattle.std.specs.Prelude.{Ok, ◌≡◌, Bool, ℕ, ◌+◌, ◌^◌, ◌<◌, ◌≤◌, length, get_or};
 ghost use Rattle.lists.specs.Lists.{sum_below};
 ghost use Rattle.refusal.specs.Judgement.{Fine};
 ghost use Rattle.rounding.specs.Rounding.{units_in_one, round_div};
@@ -14,9 +14,9 @@ ghost use Rattle.calls.specs.Judgements.{image_judgement};
 ghost use Rattle.calls.specs.Calls.{open_live};
 ghost use Rattle.comparison.specs.Standing as standing;
 ghost use Rattle.comparison.specs.Standing.{slack_limit, beyond, same_verdict, counts_by, averages_verdict, patterns_between, answered};
-ghost use Rattle.comparison.specs.Images.{opened_words, figures_of, module_of, error_read, module_read, compared};
+ghost use Rattle.comparison.specs.Images.{opened_words, figures_of, module_of, error_read, module_read, with_image, compared};
 
-use bench::Opened;
+use refusal::Refusal;
 
 // What is known of a module: its counts and live gates, its average in units, and the error of its figures in half units.
 #[derive(Clone, Copy)]
@@ -45,13 +45,6 @@ pub struct Counts {
     pub neither: u32,
 }
 
-// Modules with unlike inputs have no patterns in common.
-#[derive(Clone, Copy)]
-pub enum Patterns {
-    Counted(Counts),
-    Unlike,
-}
-
 // One of the two images.
 #[derive(Clone, Copy)]
 pub enum Image {
@@ -59,23 +52,27 @@ pub enum Image {
     Second,
 }
 
-// The answers: done with its results, or refused with number and place, and with the image where there are two.
+// What is known of an image's figures: their error in half units, and its live gates.
 #[derive(Clone, Copy)]
-pub enum ErrorRead {
-    Done { halves: u32, live: u32 },
-    Refused(u8, u32),
+pub struct ImageError {
+    pub halves: u32,
+    pub live: u32,
 }
 
+// Two modules compared; modules with unlike inputs have no patterns in common.
 #[derive(Clone, Copy)]
-pub enum ModuleRead {
-    Done(Module),
-    Refused(u8, u32),
+pub struct Comparison {
+    pub verdict: Verdict,
+    pub first: Module,
+    pub second: Module,
+    pub patterns: Option<Counts>,
 }
 
+// Which of two images is refused, and why.
 #[derive(Clone, Copy)]
-pub enum Compared {
-    Done(Verdict, Module, Module, Patterns),
-    Refused(Image, u8, u32),
+pub struct RefusedImage {
+    pub image: Image,
+    pub refusal: Refusal,
 }
 
 // The first figure is more than so many half units above the second.
@@ -162,17 +159,13 @@ fn equal_mean(figures: &[u32], count: usize) -> u32
 }
 
 // The error of an image's netlist as it is opened, in half units, and its live gates.
-pub fn error_of_image(image: &[u8]) -> ErrorRead
+pub fn error_of_image(image: &[u8]) -> Result<ImageError, Refusal>
     ensures { result ≡ error_read (image_judgement image.now) (error_halves (image_net image.now)) (open_live image.now) }
 {
     let mut area = [0u32; area::MOST_WORDS];
-    match bench::open(&mut area, image) {
-        Opened::Done(live) => ErrorRead::Done {
-            halves: errors::error_halves(&area, image),
-            live,
-        },
-        Opened::Refused(number, place) => ErrorRead::Refused(number, place),
-    }
+    let live = bench::open(&mut area, image)?;
+    let halves = errors::error_halves(&area, image);
+    Ok(ImageError { halves, live })
 }
 
 // A module whose image was opened in the area, with so many live gates; and its reliability under every pattern.
@@ -197,17 +190,15 @@ fn opened_module(figures: &mut [u32], area: &[u32], image: &[u8], live: u32) -> 
 }
 
 // A module, and its reliability under every pattern.
-fn read_module(figures: &mut [u32], image: &[u8]) -> ModuleRead
+fn read_module(figures: &mut [u32], image: &[u8]) -> Result<Module, Refusal>
     requires { layout.most_patterns ≤ length figures.old }
     ensures value { result ≡ module_read (image_judgement image.now) (module_of image.now) }
     ensures q_after { image_judgement image.now ≡ Fine
         → (q : ℕ) → q < 2 ^ image_inputs image.now → get_or figures.new q 0 ≡ figures_of image.now q }
 {
     let mut area = [0u32; area::MOST_WORDS];
-    match bench::open(&mut area, image) {
-        Opened::Done(live) => ModuleRead::Done(opened_module(figures, &area, image, live)),
-        Opened::Refused(number, place) => ModuleRead::Refused(number, place),
-    }
+    let live = bench::open(&mut area, image)?;
+    Ok(opened_module(figures, &area, image, live))
 }
 
 // Their patterns, where both have the same number of inputs.
@@ -216,16 +207,16 @@ fn compare_patterns(
     second: Module,
     first_figures: &[u32],
     second_figures: &[u32],
-) -> Patterns
+) -> Option<Counts>
     requires inputs_le_most_inputs { first.inputs ≤ layout.most_inputs }
     requires most_patterns_in_bounds { (layout.most_patterns ≤ length first_figures.now) × (layout.most_patterns ≤ length second_figures.now) }
     ensures { result ≡ patterns_between first (λ q. get_or first_figures.now q 0) second (λ q. get_or second_figures.now q 0) }
 {
     if first.inputs != second.inputs {
-        return Patterns::Unlike;
+        return None;
     }
     let count = average::pattern_count(area::index(first.inputs));
-    Patterns::Counted(count_patterns(
+    Some(count_patterns(
         first_figures,
         second_figures,
         first.error as u64 + second.error as u64,
@@ -238,10 +229,10 @@ fn compare_modules(
     second: Module,
     first_figures: &[u32],
     second_figures: &[u32],
-) -> Compared
+) -> Comparison
     requires inputs_le_most_inputs { first.inputs ≤ layout.most_inputs }
     requires most_patterns_in_bounds { (layout.most_patterns ≤ length first_figures.now) × (layout.most_patterns ≤ length second_figures.now) }
-    ensures { result ≡ answered first (λ q. get_or first_figures.now q 0) second (λ q. get_or second_figures.now q 0) }
+    ensures { Ok result ≡ answered first (λ q. get_or first_figures.now q 0) second (λ q. get_or second_figures.now q 0) }
 {
     let verdict = judge(
         first.error as u64 + second.error as u64 + 2,
@@ -249,20 +240,28 @@ fn compare_modules(
         second.average,
     );
     let patterns = compare_patterns(first, second, first_figures, second_figures);
-    Compared::Done(verdict, first, second, patterns)
+    Comparison {
+        verdict,
+        first,
+        second,
+        patterns,
+    }
+}
+
+// A module, or the refusal of the image that it was to be read from.
+fn named(image: Image, read: Result<Module, Refusal>) -> Result<Module, RefusedImage>
+    ensures { result ≡ with_image image read }
+{
+    read.map_err(|refusal| RefusedImage { image, refusal })
 }
 
 // Compares two images: opens both, takes their averages with weight 1 for every pattern, and decides where the errors leave no doubt.
-pub fn compare(first: &[u8], second: &[u8]) -> Compared
+pub fn compare(first: &[u8], second: &[u8]) -> Result<Comparison, RefusedImage>
     ensures { result ≡ compared first.now second.now }
 {
     let mut first_figures = [0u32; area::MOST_PATTERNS];
     let mut second_figures = [0u32; area::MOST_PATTERNS];
-    match read_module(&mut first_figures, first) {
-        ModuleRead::Done(one) => match read_module(&mut second_figures, second) {
-            ModuleRead::Done(other) => compare_modules(one, other, &first_figures, &second_figures),
-            ModuleRead::Refused(number, place) => Compared::Refused(Image::Second, number, place),
-        },
-        ModuleRead::Refused(number, place) => Compared::Refused(Image::First, number, place),
-    }
+    let one = named(Image::First, read_module(&mut first_figures, first))?;
+    let other = named(Image::Second, read_module(&mut second_figures, second))?;
+    Ok(compare_modules(one, other, &first_figures, &second_figures))
 }

@@ -21,7 +21,7 @@ use Rattle.calls.specs.Judgements.{image_judgement}
 use Rattle.comparison.specs.declared.Verdict.{Verdict}
 use Rattle.comparison.specs.declared.Verdict.TheVariants.{First, Second, Undecided}
 use Rattle.comparison.specs.declared.Counts.{Counts}
-use Rattle.comparison.specs.declared.Patterns.TheVariants.{Counted, Unlike}
+use Rattle.std.specs.Prelude.{Some, None}
 use Rattle.comparison.specs.Standing.{same_verdict, both_errors, how_often, counts_by, patterns_between}
 use Rattle.comparison.specs.Images.{figures_of, equal_average, module_of}
 use Rattle.comparison_meaning.specs.Statements.{exact_total, exact_parts, exact_weight, ExactlyHigher, higher_for, higher_count}
@@ -151,14 +151,14 @@ module _ (bs cs : List ℕ) (fine : image_judgement bs ≡ Fine) (also : image_j
       }
 
 -- the patterns are counted only where the inputs are alike
-counted-told : (b : Bool) (made n : Counts) → cond b (Counted made) Unlike ≡ Counted n → (b ≡ true) × (made ≡ n)
+counted-told : (b : Bool) (made n : Counts) → cond b (Some made) None ≡ Some n → (b ≡ true) × (made ≡ n)
 counted-told true made n e = (refl, cc)
 counted-told false made n e = (cc, cc)
 
 pub patterns-mean-higher : PatternsMeanHigher
 unfolding patterns_between
 patterns-mean-higher bs cs v m k n e =
-    let t = told bs cs v m k (Counted n) e in
+    let t = told bs cs v m k (Some n) e in
     let c = counted-told (eqb (image_inputs bs) (image_inputs cs)) _ n t.patterns_are in
     let alike : image_inputs bs ≡ image_inputs cs = eqb-true (image_inputs bs) (image_inputs cs) c.0 in
     subst (CountsMean bs cs) c.1 (counts-mean bs cs t.first_fine t.second_fine alike)

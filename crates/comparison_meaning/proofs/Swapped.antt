@@ -17,10 +17,10 @@ use Rattle.calls.specs.Judgements.{image_judgement}
 use Rattle.comparison.specs.declared.Verdict.{Verdict}
 use Rattle.comparison.specs.declared.Verdict.TheVariants.{First, Second, Undecided}
 use Rattle.comparison.specs.declared.Module.{Module}
-use Rattle.comparison.specs.declared.Patterns.{Patterns}
-use Rattle.comparison.specs.declared.Patterns.TheVariants.{Counted, Unlike}
-use Rattle.comparison.specs.declared.Compared.{Compared}
-use Rattle.comparison.specs.declared.Compared.TheVariants.{Done}
+use Rattle.comparison.specs.Standing.{Patterns}
+use Rattle.std.specs.Prelude.{Some, None}
+use Rattle.comparison.specs.Standing.{Compared}
+use Rattle.comparison.specs.Standing.{done}
 use Rattle.comparison.specs.Standing.{verdict, same_verdict, both_errors, averages_verdict, how_often, counts_by, pattern_verdict, patterns_between, answered}
 use Rattle.comparison.specs.Images.{figures_of, module_of, compared_if}
 use Rattle.comparison.proofs.Deciding.{counts-are}
@@ -54,16 +54,16 @@ swap-none Second = refl
 swap-none Undecided = refl
 
 -- where every verdict is swapped, so are the counts
-swap-counts : (f g : ℕ → Verdict) (k : ℕ) → ((q : ℕ) → f q ≡ swap_verdict (g q)) → Counted (counts_by f k) ≡ swap_patterns (Counted (counts_by g k))
+swap-counts : (f g : ℕ → Verdict) (k : ℕ) → ((q : ℕ) → f q ≡ swap_verdict (g q)) → Some (counts_by f k) ≡ swap_patterns (Some (counts_by g k))
 swap-counts f g k h =
-    ap Counted
+    ap Some
     (sym
     (counts-are (record { first = how_often Second g k; second = how_often First g k; neither = how_often Undecided g k }) f k
     (sym (often-same First Second f g k (λ q. ap (same_verdict First) (h q) ∙ swap-first (g q))))
     (sym (often-same Second First f g k (λ q. ap (same_verdict Second) (h q) ∙ swap-second (g q))))
     (sym (often-same Undecided Undecided f g k (λ q. ap (same_verdict Undecided) (h q) ∙ swap-none (g q))))))
 
-swap-if : (a b : Bool) (x y : Patterns) → a ≡ b → (b ≡ true → x ≡ swap_patterns y) → cond a x Unlike ≡ swap_patterns (cond b y Unlike)
+swap-if : (a b : Bool) (x y : Patterns) → a ≡ b → (b ≡ true → x ≡ swap_patterns y) → cond a x None ≡ swap_patterns (cond b y None)
 swap-if a true x y e h = rw e (h refl)
 swap-if a false x y e h = rw e refl
 
@@ -87,11 +87,11 @@ module _ (m k : Module) where
         swap-if (eqb k.inputs m.inputs) (eqb m.inputs k.inputs) _ _ (eqb-sym k.inputs m.inputs)
         (λ same.
         let alike : m.inputs ≡ k.inputs = eqb-true m.inputs k.inputs same in
-        ap (λ (n : ℕ). Counted (counts_by (pattern_verdict k s m r) (2 ^ n))) (sym alike)
+        ap (λ (n : ℕ). Some (counts_by (pattern_verdict k s m r) (2 ^ n))) (sym alike)
         ∙ swap-counts (pattern_verdict k s m r) (pattern_verdict m r k s) (2 ^ m.inputs) swap-pattern)
 
     swap_answer : answered k s m r ≡ swapped (answered m r k s)
-    swap_answer = ap₂ (λ (v : Verdict) (p : Patterns). Done v k m p) swap-averages swap-patterns
+    swap_answer = ap₂ (λ (v : Verdict) (p : Patterns). done v k m p) swap-averages swap-patterns
 
 swap-refused : (i j : Judgement) (x y : Compared) → (i ≡ Fine) ⊎ (j ≡ Fine) → y ≡ swapped x → compared_if j i y ≡ swapped (compared_if i j x)
 swap-refused Fine Fine x y some e = e
@@ -121,14 +121,14 @@ none-often f k h =
     (counts-are (record { first = 0; second = 0; neither = k }) f k (sym (never First f (bit First) k)) (sym (never Second f (bit Second) k))
     (sym (always Undecided f (bit Undecided) k)))
 
-self-patterns : (m : Module) (r : ℕ → ℕ) → patterns_between m r m r ≡ Counted (record { first = 0; second = 0; neither = 2 ^ m.inputs })
+self-patterns : (m : Module) (r : ℕ → ℕ) → patterns_between m r m r ≡ Some (record { first = 0; second = 0; neither = 2 ^ m.inputs })
 unfolding patterns_between
 self-patterns m r =
     rw (eq-eqb m.inputs m.inputs refl)
-    (ap Counted (none-often (pattern_verdict m r m r) (2 ^ m.inputs) (λ q. same-undecided (both_errors m m) (r q))))
+    (ap Some (none-often (pattern_verdict m r m r) (2 ^ m.inputs) (λ q. same-undecided (both_errors m m) (r q))))
 
 pub self-undecided : SelfUndecided
 self-undecided bs fine =
     let m = module_of bs in
     rw fine
-    (ap₂ (λ (v : Verdict) (p : Patterns). Done v m m p) (same-undecided (both_errors m m + 2) m.average) (self-patterns m (figures_of bs)))
+    (ap₂ (λ (v : Verdict) (p : Patterns). done v m m p) (same-undecided (both_errors m m + 2) m.average) (self-patterns m (figures_of bs)))

@@ -19,12 +19,12 @@ use Rattle.comparison.specs.declared.Verdict.{Verdict}
 use Rattle.comparison.specs.declared.Verdict.TheVariants.{First, Second, Undecided}
 use Rattle.comparison.specs.declared.Module.{Module}
 use Rattle.comparison.specs.declared.Counts.{Counts}
-use Rattle.comparison.specs.declared.Patterns.{Patterns}
-use Rattle.comparison.specs.declared.Patterns.TheVariants.{Counted, Unlike}
+use Rattle.comparison.specs.Standing.{Patterns}
+use Rattle.std.specs.Prelude.{Some, None, Ok, Err}
 use Rattle.comparison.specs.declared.Image.{Image}
 use Rattle.comparison.specs.declared.Image.TheVariants.{First as FirstImage, Second as SecondImage}
-use Rattle.comparison.specs.declared.Compared.{Compared}
-use Rattle.comparison.specs.declared.Compared.TheVariants.{Done, Refused}
+use Rattle.comparison.specs.Standing.{Compared}
+use Rattle.comparison.specs.Standing.{done, refused_image}
 use Rattle.comparison.specs.Standing.{verdict, both_errors, counts_by, pattern_verdict}
 use Rattle.comparison.specs.Images.{figures_of, ones, equal_average, module_of, compared}
 
@@ -80,7 +80,7 @@ PrintedHolds =
 abbrev pub HigherMeansHigher : Type 0
 HigherMeansHigher =
     (bs cs : List ℕ) (m k : Module) (p : Patterns)
-    → (compared bs cs ≡ Done First m k p → ExactlyHigher bs cs) × (compared bs cs ≡ Done Second m k p → ExactlyHigher cs bs)
+    → (compared bs cs ≡ done First m k p → ExactlyHigher bs cs) × (compared bs cs ≡ done Second m k p → ExactlyHigher cs bs)
 
 -- the verdict that a pattern is counted by
 abbrev pub verdict_for : List ℕ → List ℕ → ℕ → Verdict
@@ -98,7 +98,7 @@ pub record CountsMean (bs cs : List ℕ) (n : Counts) : Type 0 where
   pub all : n.first + n.second + n.neither ≡ 2 ^ image_inputs bs
 
 abbrev pub PatternsMeanHigher : Type 0
-PatternsMeanHigher = (bs cs : List ℕ) (v : Verdict) (m k : Module) (n : Counts) → compared bs cs ≡ Done v m k (Counted n) → CountsMean bs cs n
+PatternsMeanHigher = (bs cs : List ℕ) (v : Verdict) (m k : Module) (n : Counts) → compared bs cs ≡ done v m k (Some n) → CountsMean bs cs n
 
 -- which figures decide: beyond the slack, and nothing else. Undecided is the verdict exactly where they are no further apart
 pub record VerdictMeans (v : Verdict) (slack a b : ℕ) : Type 0 where
@@ -115,7 +115,7 @@ DecidedBeyond = (slack a b : ℕ) → VerdictMeans (verdict slack a b) slack a b
 -- what a call answers: twice the averages in the answer, both errors in it, and one half unit for each average
 abbrev pub AveragesDecide : Type 0
 AveragesDecide =
-    (bs cs : List ℕ) (v : Verdict) (m k : Module) (p : Patterns) → compared bs cs ≡ Done v m k p
+    (bs cs : List ℕ) (v : Verdict) (m k : Module) (p : Patterns) → compared bs cs ≡ done v m k p
     → VerdictMeans v (both_errors m k + 2) m.average k.average
 
 -- ---- the images the other way round
@@ -126,16 +126,16 @@ swap_verdict Second = First
 swap_verdict Undecided = Undecided
 
 abbrev pub swap_patterns : Patterns → Patterns
-swap_patterns (Counted n) = Counted (record { first = n.second; second = n.first; neither = n.neither })
-swap_patterns Unlike = Unlike
+swap_patterns (Some n) = Some (record { first = n.second; second = n.first; neither = n.neither })
+swap_patterns None = None
 
 abbrev pub swap_image : Image → Image
 swap_image FirstImage = SecondImage
 swap_image SecondImage = FirstImage
 
 abbrev pub swapped : Compared → Compared
-swapped (Done v m k p) = Done (swap_verdict v) k m (swap_patterns p)
-swapped (refused image number place) = refused (swap_image image) number place
+swapped (Ok made) = done (swap_verdict made.verdict) made.second made.first (swap_patterns made.patterns)
+swapped (Err why) = refused_image (swap_image why.image) why.refusal.cause why.refusal.place
 
 -- unless both are refused, when the image that came first is named
 abbrev pub SwapSwaps : Type 0
@@ -145,4 +145,4 @@ SwapSwaps = (bs cs : List ℕ) → (image_judgement bs ≡ Fine) ⊎ (image_judg
 abbrev pub SelfUndecided : Type 0
 SelfUndecided =
     (bs : List ℕ) → image_judgement bs ≡ Fine
-    → compared bs bs ≡ Done Undecided (module_of bs) (module_of bs) (Counted (record { first = 0; second = 0; neither = 2 ^ image_inputs bs }))
+    → compared bs bs ≡ done Undecided (module_of bs) (module_of bs) (Some (record { first = 0; second = 0; neither = 2 ^ image_inputs bs }))

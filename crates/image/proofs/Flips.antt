@@ -35,6 +35,10 @@ module _ (bad : Cause) (j kind : ℕ) (field : List ℕ) where
       let said = units-accepted kind field units e in
       (flip-passes said.0 said.1, said.2, omega (arith, said.2, low-units kind field said.1))
 
+  -- the units of one that passes
+  pub flip-low : flip_refusal bad j kind field ≡ Fine → flip_units kind field ≤ largest_flip
+  flip-low e = low-units kind field (flip-fine e).1
+
   pub flip-above : read_units kind field ≡ Err AboveHalf → flip_refusal bad j kind field ≡ refused ChanceAboveHalf j
   unfolding flip_refusal
   flip-above e = let said = units-above kind field e in rw (said.0, said.1) refl

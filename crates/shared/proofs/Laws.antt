@@ -29,7 +29,8 @@ use Rattle.image.proofs.Sound.{loaded-workable, flips-at}
 use Rattle.image.proofs.Netlist.{image-net, net-inputs}
 use Rattle.sets.specs.Sets.{most_shared, units_net, shared_units}
 use Rattle.sets.proofs.Units.{units-are, gates_are}
-use Rattle.shared.specs.Shared.{many_shared, shared_image_judgement, image_shared, shared_read}
+use Rattle.shared.specs.Shared.{many_shared, shared_image_judgement, image_shared}
+use Rattle.refusal.specs.Judgement.{answer}
 use Rattle.refusal.specs.declared.Cause.{Cause}
 use Rattle.refusal.specs.declared.Cause.TheVariants.{ManyShared}
 
@@ -79,8 +80,8 @@ module _ (bs rest : List ℕ) (fine : image_refusal bs ≡ Fine) (q : ℕ) where
       (gates_are turned (image_kinds bs) (image_chances bs) ∙ ap shared_gates net-is)
       ∙ sym (otherwise-second (image_refusal bs) (many_shared (image_net bs)) fine)
 
-  pub answer-is : shared_read (many_shared (units_net turned)) (shared_units turned) ≡ shared_read (shared_image_judgement bs) (image_shared bs q)
-  answer-is = ap₂ shared_read judged units
+  pub answer-is : answer (many_shared (units_net turned)) (shared_units turned) ≡ answer (shared_image_judgement bs) (image_shared bs q)
+  answer-is = ap₂ answer judged units
 
 -- an image that is refused before
 pub judged-first : (bs : List ℕ) (number : Cause) (place : ℕ) → image_refusal bs ≡ refused number place → shared_image_judgement bs ≡ refused number place

@@ -1,7 +1,6 @@
 -- The call of document 02, card 9: of an image under a pattern, whose bits past the inputs do not matter; no area is lent.
 use Rattle.std.specs.Prelude.{ℕ, List, leb, length}
 use Rattle.refusal.specs.Judgement.{Judgement}
-use Rattle.refusal.specs.Judgement.{Fine, refused}
 use Rattle.refusal.specs.Judgement.{refuse_unless, otherwise}
 use Rattle.rounding.specs.Rounding.{units_in_one}
 use Rattle.chance.specs.Number.{chance_scale}
@@ -10,10 +9,7 @@ use Rattle.suppose.specs.Suppose.{shared_gates, shared_reliability}
 use Rattle.sets.specs.Sets.{most_shared}
 use Rattle.image.specs.Refusals.{image_refusal}
 use Rattle.image.specs.Netlist.{image_net}
-use Rattle.shared.specs.declared.SharedRead.{SharedRead}
-use Rattle.shared.specs.declared.SharedRead.TheVariants.{Done as SharedDone, Refused as SharedRefused}
 use Rattle.refusal.specs.declared.Cause.TheVariants.{ManyShared}
-use Rattle.std.specs.Prelude.{Err}
 
 -- 23: more than eight shared live gates
 abbrev pub many_shared : Netlist → Judgement
@@ -26,8 +22,3 @@ shared_image_judgement bs = otherwise (image_refusal bs) (many_shared (image_net
 -- the shared reliability of an image
 unfoldable pub image_shared : List ℕ → ℕ → ℕ
 image_shared bs q = shared_reliability units_in_one chance_scale (image_net bs) q
-
--- the answer
-abbrev pub shared_read : Judgement → ℕ → SharedRead
-shared_read Fine units = SharedDone units
-shared_read (Err why) units = SharedErr why

@@ -96,7 +96,10 @@ pub fn judge_write(area: &[u32], room: usize) -> Result<(), Refusal>
 {
     rules::judge(area)?;
     if room < image_length(area) {
-        return Err(Refusal { cause: Cause::WrittenSlice, place: 0 });
+        return Err(Refusal {
+            cause: Cause::WrittenSlice,
+            place: 0,
+        });
     }
     Ok(())
 }

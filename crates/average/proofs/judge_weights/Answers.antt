@@ -11,7 +11,7 @@ use Rattle.lists.specs.Lists.{all_zero}
 use Rattle.refusal.specs.Judgement.{Judgement}
 use Rattle.refusal.specs.Judgement.{Fine, refused}
 use Rattle.refusal.specs.Judgement.{refuse_unless, otherwise, lowest}
-use Rattle.refusal.proofs.Laws.{otherwise-first}
+use Rattle.refusal.proofs.Laws.{passed-on, otherwise-first}
 use Rattle.area.specs.Layout.{most_inputs}
 use Rattle.calls.specs.Judgements.{weight_judgement, weights_judgement}
 use Rattle.average.proofs.Patterns.{shifted}
@@ -47,14 +47,15 @@ judge_each-requires c = omega (arith, right c, pow_mono {i = c.args.inputs} {j =
 
 pub returns-then-all_zero : goal.returns-then-all_zero
 returns-then-all_zero c =
-    none-heavy _ _ _ true (right (goal.at.returns-then-all_zero c).Else-weights-inputs) c.judge_each.ensures c.in-Fine.is
+    none-heavy _ _ _ true (right (goal.at.returns-then-all_zero c).Else-weights-inputs) c.judge_each.ensures c.in_ok-judge_each.was
     (sym c.all_zero.ensures ∙ c.if-all_zero.true)
 
-pub returns-else-all_zero : goal.returns-else-all_zero
-returns-else-all_zero c =
-    none-heavy _ _ _ false (right (goal.at.returns-else-all_zero c).Else-weights-inputs) c.judge_each.ensures c.in-Fine.is
+pub returns : goal.returns
+returns c =
+    none-heavy _ _ _ false (right (goal.at.returns c).Else-weights-inputs) c.judge_each.ensures c.in_ok-judge_each.was
     (sym c.all_zero.ensures ∙ c.if-all_zero.false)
 
-pub returns-in-Refused : goal.returns-in-Refused
-returns-in-Refused c =
-    sym (right-length _ _ _ (right (goal.at.returns-in-Refused c).Else-weights-inputs) c.judge_each.ensures ∙ otherwise-first _ _ _ _ c.in-Refused.is)
+pub returns-in_err-judge_each : goal.returns-in_err-judge_each
+returns-in_err-judge_each c =
+    passed-on _ _ c.from_residual.ensures.1
+    ∙ sym (right-length _ _ _ (right (goal.at.returns-in_err-judge_each c).Else-weights-inputs) c.judge_each.ensures ∙ otherwise-first _ _ _ _ c.in_err-judge_each.was)

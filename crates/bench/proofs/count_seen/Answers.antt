@@ -5,6 +5,7 @@ use Rattle.area.specs.Layout.{inputs, gates}
 use Rattle.calls.specs.Judgements.{Call, count_seen, argument_judgement, lent_judgement}
 use Rattle.calls.specs.Calls.{counts_left}
 use Rattle.calls.proofs.Judgements.{lent-fine, counts-fine}
+use Rattle.refusal.proofs.Laws.{passed-on}
 use Rattle.bench.proofs.count_seen.Goals.{After-judge_counts}
 use Rattle.bench.proofs.count_seen.Goals as goal
 
@@ -20,16 +21,16 @@ pub count-requires : goal.count-requires
 unfolding argument_judgement
 count-requires c =
     let a = c.args in
-    let p = lent-fine a.area.now (asked (goal.at.count-requires c).After-judge_counts) (sym (judged (goal.at.count-requires c).After-judge_counts) ∙ c.in-Fine.is) in
+    let p = lent-fine a.area.now (asked (goal.at.count-requires c).After-judge_counts) (sym (judged (goal.at.count-requires c).After-judge_counts) ∙ c.in_ok-judge_counts.was) in
     let fit = counts-fine (inputs a.area.now) (gates a.area.now) a.patterns.now (length a.counts.now) p.1 in
     (p.0.workable.net, fit.0, fit.1)
 
-pub returns-in-Fine : goal.returns-in-Fine
+pub returns : goal.returns
 unfolding counts_left
-returns-in-Fine c =
-    let e = sym (judged (goal.at.returns-in-Fine c).After-judge_counts) ∙ c.in-Fine.is in record { value = rw e refl; counts_after = rw e c.count.ensures }
+returns c =
+    let e = sym (judged (goal.at.returns c).After-judge_counts) ∙ c.in_ok-judge_counts.was in record { value = rw e refl; counts_after = rw e c.count.ensures }
 
-pub returns-in-Refused : goal.returns-in-Refused
+pub returns-in_err-judge_counts : goal.returns-in_err-judge_counts
 unfolding counts_left
-returns-in-Refused c =
-    let e = sym (judged (goal.at.returns-in-Refused c).After-judge_counts) ∙ c.in-Refused.is in record { value = rw e refl; counts_after = rw e refl }
+returns-in_err-judge_counts c =
+    let e = sym (judged (goal.at.returns-in_err-judge_counts c).After-judge_counts) ∙ c.in_err-judge_counts.was in record { value = rw (passed-on c.from_residual.result c.in_err-judge_counts.field-0.0 c.from_residual.ensures.1, e) refl; counts_after = rw e refl }

@@ -13,6 +13,7 @@ use Rattle.refusal.specs.Judgement.{Fine, refused}
 use Rattle.refusal.specs.Judgement.{refuse_unless, otherwise, lowest, word_judgement}
 use Rattle.area.specs.Layout.{most_listed}
 use Rattle.calls.specs.Judgements.{listed_judgement, counts_judgement}
+use Rattle.refusal.proofs.Laws.{passed-on}
 use Rattle.bench.proofs.judge_listed.Goals.{After-judge_each}
 use Rattle.bench.proofs.judge_listed.Goals as goal
 use Rattle.refusal.specs.declared.Cause.TheVariants.{ListLength, ListedPattern, CountSlice}
@@ -57,11 +58,11 @@ module _ (c : After-judge_each) where
 
 pub returns-then-slots-gates : goal.returns-then-slots-gates
 returns-then-slots-gates c =
-    sym (listed (goal.at.returns-then-slots-gates c).After-judge_each Fine c.in-Fine.is ∙ ap (λ (b : Bool). refuse_unless b CountSlice 0) (lt-leb _ _ c.if-slots-gates.true))
+    sym (listed (goal.at.returns-then-slots-gates c).After-judge_each Fine c.in_ok-judge_each.was ∙ ap (λ (b : Bool). refuse_unless b CountSlice 0) (lt-leb _ _ c.if-slots-gates.true))
 
-pub returns-else-slots-gates : goal.returns-else-slots-gates
-returns-else-slots-gates c =
-    sym (listed (goal.at.returns-else-slots-gates c).After-judge_each Fine c.in-Fine.is ∙ ap (λ (b : Bool). refuse_unless b CountSlice 0) (le-leb _ _ c.if-slots-gates.false))
+pub returns : goal.returns
+returns c =
+    sym (listed (goal.at.returns c).After-judge_each Fine c.in_ok-judge_each.was ∙ ap (λ (b : Bool). refuse_unless b CountSlice 0) (le-leb _ _ c.if-slots-gates.false))
 
-pub returns-in-Refused : goal.returns-in-Refused
-returns-in-Refused c = sym (listed (goal.at.returns-in-Refused c).After-judge_each _ c.in-Refused.is)
+pub returns-in_err-judge_each : goal.returns-in_err-judge_each
+returns-in_err-judge_each c = passed-on c.from_residual.result c.in_err-judge_each.field-0.0 c.from_residual.ensures.1 ∙ sym (listed (goal.at.returns-in_err-judge_each c).After-judge_each _ c.in_err-judge_each.was)

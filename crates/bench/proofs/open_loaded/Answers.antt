@@ -5,7 +5,7 @@ use mathlib.Core.Path.{◌≡◌, refl, sym, ap, ap₂, ◌∙◌}
 use native.Mathlib.Omega.{arith}
 use lib.ListN.{length, get_or}
 use Rattle.refusal.specs.Judgement.{Judgement}
-use Rattle.refusal.proofs.Laws.{otherwise-first, otherwise-second}
+use Rattle.refusal.proofs.Laws.{passed-on, otherwise-first, otherwise-second}
 use Rattle.netlist.specs.Live.{readers, live_gates}
 use Rattle.area.specs.Net.{net_of}
 use Rattle.area.proofs.Words.{few-sources}
@@ -50,20 +50,20 @@ judge_shared-requires c =
 pub open_fitting-requires : goal.open_fitting-requires
 open_fitting-requires c = record { net_sound = c.requires.net_sound; by_index = c.requires.by_index; sum_value = c.count_live-counted.ensures.sum_value.0 }
 
-pub returns-in-Fine : goal.returns-in-Fine
+pub returns : goal.returns
 unfolding loaded_judgement
-returns-in-Fine c =
-    let start = (goal.at.returns-in-Fine c).Start in
-    let there = (goal.at.returns-in-Fine c).After-judge_shared in
+returns c =
+    let start = (goal.at.returns c).Start in
+    let there = (goal.at.returns c).After-judge_shared in
     let at-live = c.live_gates-live in
-    let fine = shared there ∙ c.in-Fine.is in
+    let fine = shared there ∙ c.in_ok-judge_shared.was in
     let e = otherwise-second (shared_judgement (net_of (words start) [] [])) (room start) fine in
     let live : at-live.result ≡ live_gates (net_of (words start) [] [])
     = at-live.ensures
     ∙ ap₂ (live_counted (counts there)) c.inputs-inputs.ensures c.gates-gates.ensures
     ∙ live-gates-are (words start) (counts there) (counted there) [] [] in record { value = rw e (c.open_fitting.ensures.value ∙ ap (opened (room start)) live); area_after = rw e c.open_fitting.ensures.area_after }
 
-pub returns-in-Refused : goal.returns-in-Refused
+pub returns-in_err-judge_shared : goal.returns-in_err-judge_shared
 unfolding loaded_judgement
-returns-in-Refused c =
-    let e = otherwise-first (shared_judgement (net_of (words (goal.at.returns-in-Refused c).Start) [] [])) (room (goal.at.returns-in-Refused c).Start) _ _ (shared (goal.at.returns-in-Refused c).After-judge_shared ∙ c.in-Refused.is) in record { value = rw e refl; area_after = rw e refl }
+returns-in_err-judge_shared c =
+    let e = otherwise-first (shared_judgement (net_of (words (goal.at.returns-in_err-judge_shared c).Start) [] [])) (room (goal.at.returns-in_err-judge_shared c).Start) _ _ (shared (goal.at.returns-in_err-judge_shared c).After-judge_shared ∙ c.in_err-judge_shared.was) in record { value = rw (passed-on c.from_residual.result c.in_err-judge_shared.field-0.0 c.from_residual.ensures.1, e) refl; area_after = rw e refl }

@@ -5,7 +5,7 @@ use mathlib.Core.Path.{◌≡◌, refl, sym, ap, ap₂, subst, ◌∙◌}
 use native.Mathlib.Nat.{mul-le-mul_right}
 use native.Mathlib.Omega.{arith}
 use Rattle.refusal.specs.Judgement.{Fine, refused}
-use Rattle.refusal.proofs.Laws.{otherwise-second}
+use Rattle.refusal.proofs.Laws.{otherwise-second, passed-on, answer-told}
 use Rattle.chance.specs.Flip.{flip_units}
 use Rattle.netlist.specs.Live.{if_live, readers}
 use Rattle.area.specs.Layout.{most_gates, largest_flip, inputs, gates, outputs, flip}
@@ -17,15 +17,13 @@ use Rattle.work.specs.Work.{set_words}
 use Rattle.work.proofs.Frame.{same_set}
 use Rattle.work.proofs.Sound.{set_sum}
 use Rattle.image.specs.Refusals.{flip_refusal}
-use Rattle.image.proofs.Flips.{flip-read, flip-above, flip-bad}
+use Rattle.image.proofs.Flips.{flip-low}
 use Rattle.calls.specs.Judgements.{set_flip, read_gate, flip_judgement, lent_judgement}
 use Rattle.calls.specs.Calls.{left}
 use Rattle.calls.proofs.Judgements.{lent-fine, gate-fine, set-after-gate}
-use Rattle.bench.specs.declared.FlipSet.TheVariants.{Refused as SetRefused}
-use Rattle.bench.specs.Answers.{flip_set}
-use Rattle.bench.proofs.set_known_flip.Goals.{After-index-in-Units, After-set_units, Start}
+use Rattle.bench.proofs.set_known_flip.Goals.{After-index-2, After-set_units, Start}
 use Rattle.bench.proofs.set_known_flip.Goals as goal
-use Rattle.refusal.specs.declared.Cause.TheVariants.{CallFlip, ChanceAboveHalf}
+use Rattle.refusal.specs.declared.Cause.TheVariants.{CallFlip}
 
 -- the area keeps rule 14, and the gate is there
 module _ (ws : List ℕ) (g : ℕ) (known : lent_judgement ws (read_gate g) ≡ Fine) where
@@ -40,7 +38,7 @@ flip-old-requires c =
     omega (arith, c.index.ensures, there c.args.area.now c.args.gate c.requires.gate_value, (passed c.args.area.now c.args.gate c.requires.gate_value).workable.net.long)
 
 -- the flip is accepted
-module _ (c : After-index-in-Units) where
+module _ (c : After-index-2) where
   abbrev ws : List ℕ
   ws = c.args.area.now
 
@@ -48,14 +46,13 @@ module _ (c : After-index-in-Units) where
   g = c.args.gate
 
   abbrev units : ℕ
-  units = c.in-Units.units
+  units = c.in_ok-units.units
 
   accepted : (flip_refusal CallFlip g c.args.kind c.args.field ≡ Fine)
       × (flip_units c.args.kind c.args.field ≡ units) × (units ≤ largest_flip)
   accepted =
-      flip-read CallFlip g c.args.kind c.args.field units
-      (sym c.read_units.ensures
-      ∙ c.in-Units.is)
+      let told = (answer-told _ _ _ c.units_of_flip.ensures).0 units c.in_ok-units.was in
+      (told.0, sym told.1, rw (told.1) (flip-low CallFlip g c.args.kind c.args.field told.0))
 
   net : NetSound ws
   net = (passed c.args.area.now c.args.gate c.requires.gate_value).workable.net
@@ -84,26 +81,26 @@ module _ (c : After-index-in-Units) where
       )
 
 pub set_units-requires : goal.set_units-requires
-set_units-requires c = record { workable = (passed c.args.area.now c.args.gate c.requires.gate_value).workable; gate_bound = omega (arith, c.index-in-Units.ensures, there c.args.area.now c.args.gate c.requires.gate_value); units_le_largest_flip = (accepted c).2 }
+set_units-requires c = record { workable = (passed c.args.area.now c.args.gate c.requires.gate_value).workable; gate_bound = omega (arith, c.index-2.ensures, there c.args.area.now c.args.gate c.requires.gate_value); units_le_largest_flip = (accepted c).2 }
 
 pub changed_sum-requires : goal.changed_sum-requires
 changed_sum-requires c =
-    let there = (goal.at.changed_sum-requires c).After-index-in-Units in
+    let there = (goal.at.changed_sum-requires c).After-index-2 in
     (omega (arith, had there, enough there), omega (arith, few there, (accepted there).2))
 
 -- what the flip is set in
 set_is : (c : After-set_units) → c.set_units.new.area ≡ worked c.before
-set_is c = c.set_units.ensures ∙ ap (λ (k : ℕ). set_words (ws c.before) k (units c.before)) c.index-in-Units.ensures
+set_is c = c.set_units.ensures ∙ ap (λ (k : ℕ). set_words (ws c.before) k (units c.before)) c.index-2.ensures
 
 pub store_sum-requires : goal.store_sum-requires
 store_sum-requires c =
-    let past = (goal.at.store_sum-requires c).After-index-in-Units in
+    let past = (goal.at.store_sum-requires c).After-index-2 in
     rw (set_is (goal.at.store_sum-requires c).After-set_units) (omega (arith, (same_set (ws past) (g past) (units past) (there c.args.area.now c.args.gate c.requires.gate_value)).size, (net past).long))
 
-pub returns-in-Units : goal.returns-in-Units
+pub returns : goal.returns
 unfolding with_sum
-returns-in-Units c =
-    let past = (goal.at.returns-in-Units c).After-index-in-Units in
+returns c =
+    let past = (goal.at.returns c).After-index-2 in
     let a = c.args in
     let judged =
     set-after-gate (ws past) a.gate a.kind a.field
@@ -120,26 +117,16 @@ returns-in-Units c =
       c.requires.live_value.1,
       set_sum (ws past) (g past) (units past) (there c.args.area.now c.args.gate c.requires.gate_value) (net past),
     ) in
-    let flips = ap (set_words (ws past) (g past)) (sym (accepted past).1) in record { value = rw (accepted past).0 refl; area_after = rw judged (c.store_sum.ensures ∙ ap₂ stored_sum (set_is (goal.at.returns-in-Units c).After-set_units ∙ flips) (sum ∙ ap flip_sum flips)) }
+    let flips = ap (set_words (ws past) (g past)) (sym (accepted past).1) in record { value = rw (accepted past).0 refl; area_after = rw judged (c.store_sum.ensures ∙ ap₂ stored_sum (set_is (goal.at.returns c).After-set_units ∙ flips) (sum ∙ ap flip_sum flips)) }
 
 -- a flip that is refused leaves every word
-left_alone : (s : Start) (number : ℕ) →
-    let a = s.args in
-    flip_refusal CallFlip a.gate a.kind a.field ≡ refused number a.gate
-    → (SetRefused number a.gate ≡ flip_set (flip_judgement a.gate a.kind a.field))
-    × (a.area.now ≡ left a.area.now (set_flip a.gate a.kind a.field))
-left_alone s number u =
-    let a = s.args in
+pub returns-in_err-units : goal.returns-in_err-units
+returns-in_err-units c =
+    let a = c.args in
+    let why = c.in_err-units.field-0.0 in
+    let bad = (answer-told _ _ _ c.units_of_flip.ensures).1 why c.in_err-units.was in
     let judged =
     set-after-gate a.area.now a.gate a.kind a.field
-    ∙ otherwise-second (lent_judgement a.area.now (read_gate a.gate)) (flip_judgement a.gate a.kind a.field) s.requires.gate_value
-    ∙ u in
-    (rw u refl, rw judged refl)
-
-pub returns-in-AboveHalf : goal.returns-in-AboveHalf
-returns-in-AboveHalf c =
-    let a = c.args in let all = left_alone (goal.at.returns-in-AboveHalf c).Start ChanceAboveHalf (flip-above CallFlip a.gate a.kind a.field (sym c.read_units.ensures ∙ c.in-AboveHalf.is)) in record { value = all.0; area_after = all.1 }
-
-pub returns-in-Refused : goal.returns-in-Refused
-returns-in-Refused c =
-    let a = c.args in let all = left_alone (goal.at.returns-in-Refused c).Start CallFlip (flip-bad CallFlip a.gate a.kind a.field (sym c.read_units.ensures ∙ c.in-Refused.is)) in record { value = all.0; area_after = all.1 }
+    ∙ otherwise-second (lent_judgement a.area.now (read_gate a.gate)) (flip_judgement a.gate a.kind a.field) c.requires.gate_value
+    ∙ bad in
+    record { value = passed-on c.from_residual.result why c.from_residual.ensures.1 ∙ sym bad; area_after = rw judged refl }

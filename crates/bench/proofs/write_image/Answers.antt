@@ -9,6 +9,7 @@ use Rattle.calls.specs.Judgements.{Call, write_image, judgement}
 use Rattle.calls.proofs.Judgements.{lent-fine, write-fine}
 use Rattle.written.specs.Image.{area_image_length}
 use Rattle.written.specs.Call.{image_left}
+use Rattle.refusal.proofs.Laws.{passed-on}
 use Rattle.bench.proofs.write_image.Goals.{After-judge_write}
 use Rattle.bench.proofs.write_image.Goals as goal
 
@@ -28,19 +29,19 @@ module _ (c : After-judge_write) where
 
 pub write_image-requires : goal.write_image-requires
 write_image-requires c =
-    let p = passed (goal.at.write_image-requires c).After-judge_write (sym (judged (goal.at.write_image-requires c).After-judge_write) ∙ c.in-Fine.is) in
+    let p = passed (goal.at.write_image-requires c).After-judge_write (sym (judged (goal.at.write_image-requires c).After-judge_write) ∙ c.in_ok-judge_write.was) in
     (p.0.workable, p.1)
 
 pub image_length-requires : goal.image_length-requires
 image_length-requires c =
-    (passed (goal.at.image_length-requires c).After-judge_write (sym (judged (goal.at.image_length-requires c).After-judge_write) ∙ c.in-Fine.is)).0.workable
+    (passed (goal.at.image_length-requires c).After-judge_write (sym (judged (goal.at.image_length-requires c).After-judge_write) ∙ c.in_ok-judge_write.was)).0.workable
 
-pub returns-in-Fine : goal.returns-in-Fine
+pub returns : goal.returns
 unfolding image_left
-returns-in-Fine c =
-    let e = sym (judged (goal.at.returns-in-Fine c).After-judge_write) ∙ c.in-Fine.is in record { value = rw (e, c.image_length.ensures.0) refl; image_after = rw e c.write_image.ensures }
+returns c =
+    let e = sym (judged (goal.at.returns c).After-judge_write) ∙ c.in_ok-judge_write.was in record { value = rw (e, c.image_length.ensures.0) refl; image_after = rw e c.write_image.ensures }
 
-pub returns-in-Refused : goal.returns-in-Refused
+pub returns-in_err-judge_write : goal.returns-in_err-judge_write
 unfolding image_left
-returns-in-Refused c =
-    let e = sym (judged (goal.at.returns-in-Refused c).After-judge_write) ∙ c.in-Refused.is in record { value = rw e refl; image_after = rw e refl }
+returns-in_err-judge_write c =
+    let e = sym (judged (goal.at.returns-in_err-judge_write c).After-judge_write) ∙ c.in_err-judge_write.was in record { value = rw (passed-on c.from_residual.result c.in_err-judge_write.field-0.0 c.from_residual.ensures.1, e) refl; image_after = rw e refl }

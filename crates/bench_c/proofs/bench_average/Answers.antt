@@ -2,19 +2,19 @@
 use mathlib.Core.Path.{refl, sym, ◌∙◌}
 use Rattle.calls.specs.Calls.{average_of}
 use Rattle.calls.specs.Judgements.{take_average, judgement}
-use Rattle.bench_c.proofs.Answered.{average-told}
+use Rattle.refusal.proofs.Laws.{answer-told}
 use Rattle.bench_c.proofs.bench_average.Goals as goal
 
-pub returns-in-Done : goal.returns-in-Done
-returns-in-Done c =
+pub returns-in-Ok : goal.returns-in-Ok
+returns-in-Ok c =
     let a = c.args in
-    let t = c.average-answer in
+    let t = c.average in
     let judged = judgement a.area.now (take_average a.weights.now) in
-    let e = (average-told judged (average_of a.area.now a.weights.now)).0 _ (sym t.ensures.value ∙ c.in-Done.is) in record { value = rw e.0 refl; units_after = rw e.0 e.1; area_after = t.ensures.area_after }
+    let e = (answer-told judged (average_of a.area.now a.weights.now) _ t.ensures.value).0 _ c.in-Ok.is in record { value = rw e.0 refl; units_after = rw e.0 e.1; area_after = t.ensures.area_after }
 
-pub returns-in-Refused : goal.returns-in-Refused
-returns-in-Refused c =
+pub returns-in-Err : goal.returns-in-Err
+returns-in-Err c =
     let a = c.args in
-    let t = c.average-answer in
+    let t = c.average in
     let judged = judgement a.area.now (take_average a.weights.now) in
-    let e = (average-told judged (average_of a.area.now a.weights.now)).1 _ _ (sym t.ensures.value ∙ c.in-Refused.is) in record { value = rw e c.refused.ensures; units_after = rw e refl; area_after = t.ensures.area_after }
+    let e = (answer-told judged (average_of a.area.now a.weights.now) _ t.ensures.value).1 _ c.in-Err.is in record { value = rw e c.refused.ensures; units_after = rw e refl; area_after = t.ensures.area_after }

@@ -1,11 +1,9 @@
 -- `bench_c::bench_counts_by_flip` meets its contract. Assumes nothing.
-use lib.ListN.{length}
-use Rattle.netlist.specs.declared.Method.TheVariants.{Flip}
-use Rattle.calls.specs.Judgements.{count_seen, judgement}
+use mathlib.Core.Path.{ap, ◌∙◌}
+use Rattle.bench_c.specs.Codes.{code}
 use Rattle.bench_c.proofs.bench_counts_by_flip.Goals as goal
 
 pub returns : goal.returns
 returns c =
-    let a = c.args in
     let t = c.counts_by_flip in
-    let judged = judgement a.area.now (count_seen Flip a.patterns.now (length a.counts.now)) in record { value = c.count_code.ensures judged t.ensures.value; counts_after = t.ensures.counts_after }
+    record { value = c.code_of.ensures ∙ ap code t.ensures.value; counts_after = t.ensures.counts_after }

@@ -2,19 +2,19 @@
 use mathlib.Core.Path.{refl, sym, ◌∙◌}
 use lib.ListN.{length}
 use Rattle.blif.specs.Reading.{text_lines, model_length, blif_refusal}
-use Rattle.bench_c.proofs.Answered.{blif-told}
+use Rattle.refusal.proofs.Laws.{answer-told}
 use Rattle.bench_c.proofs.bench_read_blif.Goals as goal
 
-pub returns-in-Done : goal.returns-in-Done
-returns-in-Done c =
+pub returns-in-Ok : goal.returns-in-Ok
+returns-in-Ok c =
     let a = c.args in
-    let t = c.read_blif-answer in
-    let told = blif-told (blif_refusal a.text.now (length a.image.now)) (model_length (text_lines a.text.now)) in
-    let e = told.0 _ (sym t.ensures.value ∙ c.in-Done.is) in record { value = rw e.0 refl; bytes_after = rw e.0 e.1; image_after = t.ensures.image_after }
+    let t = c.read_blif in
+    let told = answer-told (blif_refusal a.text.now (length a.image.now)) (model_length (text_lines a.text.now)) _ t.ensures.value in
+    let e = told.0 _ c.in-Ok.is in record { value = rw e.0 refl; bytes_after = rw e.0 e.1; image_after = t.ensures.image_after }
 
-pub returns-in-Refused : goal.returns-in-Refused
-returns-in-Refused c =
+pub returns-in-Err : goal.returns-in-Err
+returns-in-Err c =
     let a = c.args in
-    let t = c.read_blif-answer in
-    let told = blif-told (blif_refusal a.text.now (length a.image.now)) (model_length (text_lines a.text.now)) in
-    let e = told.1 _ _ (sym t.ensures.value ∙ c.in-Refused.is) in record { value = rw e c.refused.ensures; bytes_after = rw e refl; image_after = t.ensures.image_after }
+    let t = c.read_blif in
+    let told = answer-told (blif_refusal a.text.now (length a.image.now)) (model_length (text_lines a.text.now)) _ t.ensures.value in
+    let e = told.1 _ c.in-Err.is in record { value = rw e c.refused.ensures; bytes_after = rw e refl; image_after = t.ensures.image_after }

@@ -3,19 +3,19 @@ use mathlib.Core.Path.{refl, sym, ◌∙◌}
 use lib.ListN.{length}
 use Rattle.calls.specs.Judgements.{write_image, judgement}
 use Rattle.written.specs.Image.{area_image_length}
-use Rattle.bench_c.proofs.Answered.{write-told}
+use Rattle.refusal.proofs.Laws.{answer-told}
 use Rattle.bench_c.proofs.bench_write_image.Goals as goal
 
-pub returns-in-Done : goal.returns-in-Done
-returns-in-Done c =
+pub returns-in-Ok : goal.returns-in-Ok
+returns-in-Ok c =
     let a = c.args in
-    let t = c.write_image-answer in
+    let t = c.write_image in
     let judged = judgement a.area.now (write_image (length a.image.now)) in
-    let e = (write-told judged (area_image_length a.area.now)).0 _ (sym t.ensures.value ∙ c.in-Done.is) in record { value = rw e.0 refl; bytes_after = rw e.0 e.1; image_after = t.ensures.image_after }
+    let e = (answer-told judged (area_image_length a.area.now) _ t.ensures.value).0 _ c.in-Ok.is in record { value = rw e.0 refl; bytes_after = rw e.0 e.1; image_after = t.ensures.image_after }
 
-pub returns-in-Refused : goal.returns-in-Refused
-returns-in-Refused c =
+pub returns-in-Err : goal.returns-in-Err
+returns-in-Err c =
     let a = c.args in
-    let t = c.write_image-answer in
+    let t = c.write_image in
     let judged = judgement a.area.now (write_image (length a.image.now)) in
-    let e = (write-told judged (area_image_length a.area.now)).1 _ _ (sym t.ensures.value ∙ c.in-Refused.is) in record { value = rw e c.refused.ensures; bytes_after = rw e refl; image_after = t.ensures.image_after }
+    let e = (answer-told judged (area_image_length a.area.now) _ t.ensures.value).1 _ c.in-Err.is in record { value = rw e c.refused.ensures; bytes_after = rw e refl; image_after = t.ensures.image_after }

@@ -2,8 +2,8 @@
 use mathlib.Core.Path.{ap₂}
 use native.Mathlib.Omega.{arith}
 use Rattle.comparison.specs.declared.Verdict.{Verdict}
-use Rattle.comparison.specs.declared.Patterns.{Patterns}
-use Rattle.comparison.specs.declared.Compared.TheVariants.{Done}
+use Rattle.comparison.specs.Standing.{Patterns}
+use Rattle.comparison.specs.Standing.{done}
 use Rattle.comparison.proofs.compare_modules.Goals as goal
 
 pub judge-verdict-requires : goal.judge-verdict-requires
@@ -15,4 +15,4 @@ compare_patterns-patterns-requires c = record { inputs_le_most_inputs = c.requir
 pub returns : goal.returns
 returns c =
     let a = c.args in
-    ap₂ (λ (v : Verdict) (p : Patterns). Done v a.first a.second p) c.judge-verdict.ensures c.compare_patterns-patterns.ensures
+    ap₂ (λ (v : Verdict) (p : Patterns). done v a.first a.second p) c.judge-verdict.ensures c.compare_patterns-patterns.ensures

@@ -4,7 +4,7 @@ use mathlib.Core.Path.{refl, ap, ◌∙◌}
 use native.Mathlib.Omega.{arith}
 use lib.ListN.{get_or}
 use borrow.Author.Tests.{eq-eqb, ne_eqb}
-use Rattle.comparison.specs.declared.Patterns.TheVariants.{Counted}
+use Rattle.std.specs.Prelude.{Some}
 use Rattle.comparison.specs.Standing.{counts_by, pattern_verdict, patterns_between}
 use Rattle.comparison.proofs.compare_patterns.Goals as goal
 
@@ -33,4 +33,4 @@ returns c =
     let many = c.pattern_count-count.ensures.0 ∙ ap (λ (n : ℕ). 2 ^ n) c.index.ensures in
     let f = pattern_verdict a.first (λ q. get_or a.first_figures.now q 0) a.second (λ q. get_or a.second_figures.now q 0) in
     rw (eq-eqb a.first.inputs a.second.inputs c.if-first-second.false)
-    (ap Counted (c.count_patterns.ensures ∙ ap (counts_by f) many))
+    (ap Some (c.count_patterns.ensures ∙ ap (counts_by f) many))
