@@ -2,7 +2,7 @@
 // field, 0 if it is refused, 1 if it is accepted, 2 if its chance is above 0.5, and its units.
 #![tactic(auto)]
 
-use chance::{FlipRead, FlipUnits};
+use chance::FlipFault;
 use std::io::{self, Read};
 
 // No run has as many vectors: a loop must be seen to end.
@@ -16,17 +16,17 @@ fn says(v: [u8; 14], answer: u8, units: u32) -> bool {
 // The conversion alone, which goes up to 1.
 fn converted(kind: u8, field: [u8; 8]) -> u32 {
     match chance::read_flip(kind, field) {
-        FlipRead::Accepted(flip) => chance::units(flip),
-        FlipRead::Refused => 0,
+        Some(flip) => chance::units(flip),
+        None => 0,
     }
 }
 
 fn agrees(v: [u8; 14]) -> bool {
     let field = [v[1], v[2], v[3], v[4], v[5], v[6], v[7], v[8]];
     match chance::read_units(v[0], field) {
-        FlipUnits::Units(units) => says(v, 1, units),
-        FlipUnits::AboveHalf => says(v, 2, converted(v[0], field)),
-        FlipUnits::Refused => says(v, 0, 0),
+        Ok(units) => says(v, 1, units),
+        Err(FlipFault::AboveHalf) => says(v, 2, converted(v[0], field)),
+        Err(FlipFault::Unreadable) => says(v, 0, 0),
     }
 }
 

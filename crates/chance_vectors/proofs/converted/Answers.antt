@@ -4,4 +4,4 @@ use Rattle.chance.proofs.Laws.{read-in-range}
 use Rattle.chance_vectors.proofs.converted.Goals as goal
 
 pub units-requires : goal.units-requires
-units-requires c = read-in-range c.args.kind c.args.field c.in-Accepted.flip (sym c.in-Accepted.ensures)
+units-requires c = read-in-range c.args.kind c.args.field c.in-Some.flip (sym c.in-Some.ensures)
