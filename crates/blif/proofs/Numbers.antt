@@ -12,7 +12,7 @@ use Rattle.texts.specs.Words.{Word, line_feeds, most_bytes}
 use Rattle.statements.specs.declared.Phase.{Phase}
 use Rattle.statements.specs.declared.Phase.TheVariants.{Before}
 use Rattle.statements.specs.Lines.{Line, last_line}
-use Rattle.statements.specs.Fit.{fit, is_misfit, is_ended, fault}
+use Rattle.statements.specs.Fit.{fit, is_ended, if_fits, fault}
 use Rattle.placing.specs.Placing.{via, loop_fault}
 use Rattle.model.specs.Model.{inputs_key, outputs_key, gates_key, listed, defined, number, no_word}
 use Rattle.area.specs.Layout.{most_inputs, most_gates, most_outputs}
@@ -20,7 +20,7 @@ use Rattle.model.specs.Counts.{earlier, line_at, over_fault, count_fault}
 use Rattle.resolve.specs.Names.{again_fault, unknown_fault, names_fault, sources_in, source_numbers}
 use Rattle.blif.specs.Reading.{text_lines, input_count, gate_count, model_length, blif_refusal}
 use Rattle.refusal.specs.declared.Cause.TheVariants.{TextLine, TextModel, ImageSlice}
-use Rattle.std.specs.Prelude.{Err}
+use Rattle.std.specs.Prelude.{Err, Option, Some, None}
 
 abbrev Positive : ℕ → Type 0
 Positive number = 0 < number
@@ -36,11 +36,11 @@ only-earlier (Err why) (Err why2) f g = go (leb why.place why2.place)
 
 only-fault : (p : Phase) (ls : List Line) (last : ℕ) → Only Positive (fault p ls last)
 only-fault p [] last = only-unless Positive (is_ended p) TextLine last (omega arith)
-only-fault p (l ∷ ls) last = go (is_misfit (fit p l.words)) (only-fault (fit p l.words) ls last)
+only-fault p (l ∷ ls) last = go (fit p l.words) (λ q. only-fault q ls last)
   where
-    go : (q : Bool) → Only Positive (fault (fit p l.words) ls last) → Only Positive (cond q (refused TextLine l.number) (fault (fit p l.words) ls last))
-    go true ih = only-unless Positive false TextLine l.number (omega arith)
-    go false ih = ih
+    go : (o : Option Phase) → ((q : Phase) → Only Positive (fault q ls last)) → Only Positive (if_fits o (refused TextLine l.number) (λ q. fault q ls last))
+    go None ih = only-unless Positive false TextLine l.number (omega arith)
+    go (Some q) ih = ih q
 
 only-over : (ws : List Word) (most : ℕ) → Only Positive (over_fault ws most)
 only-over ws most = only-unless Positive (leb (length ws) most) TextModel (line_at ws most) (omega arith)

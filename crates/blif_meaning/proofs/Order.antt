@@ -1,7 +1,8 @@
 -- Names stand in the order of the text: inputs and outputs before gates, by lines that do not go back. Assumes nothing.
 use Prim.Native.Nat.{ℕ, zero, suc, ◌+◌, ◌<◌, ◌≤◌}
 use mathlib.Core.Path.{◌≡◌, refl, sym, ◌∙◌}
-use mathlib.Core.Bool.{Bool, true, false, cond}
+use mathlib.Core.Bool.{Bool, true, false, cond, not}
+use Rattle.std.specs.Prelude.{Option, Some, None}
 use mathlib.Core.List.{List, [], ◌∷◌, ◌++◌, map, append_assoc}
 use native.Mathlib.Nat.{le_refl, le_trans}
 use native.Mathlib.Omega.{arith}
@@ -14,12 +15,12 @@ use Rattle.texts.specs.declared.Place.{Place}
 use Rattle.texts.specs.declared.Place.TheVariants.{Gap, Inside, Comment, Joint}
 use Rattle.texts.specs.declared.State.{State}
 use Rattle.statements.specs.Lines.{Line, joined, lines_of}
-use Rattle.statements.specs.Fit.{keyword_of, all_names, is_row, value_of, after_gate, after_end, after_value, after_line, fit_as, fit, is_misfit, fault}
+use Rattle.statements.specs.Fit.{keyword_of, all_names, is_row, value_of, after_gate, after_end, after_value, after_line, fit_as, fit, fault}
 use Rattle.statements.specs.declared.Keyword.{Keyword}
 use Rattle.statements.specs.declared.Keyword.TheVariants.{Model, Inputs, Outputs, Names, End, Other}
 use Rattle.statements.specs.declared.Phase.{Phase}
-use Rattle.statements.specs.declared.Phase.TheVariants.{Before, Heading, Cover, Ended, Misfit}
-use Rattle.statements.proofs.Ends.{never, later, fitted}
+use Rattle.statements.specs.declared.Phase.TheVariants.{Before, Heading, Cover, Ended}
+use Rattle.statements.proofs.Ends.{never, fitted}
 use Rattle.model.specs.Model.{inputs_key, outputs_key, gates_key, same_key, key_of, after, word_in, listed, gates_of, no_gate}
 use Rattle.model.specs.Counts.{line_at}
 use Rattle.model.proofs.Keys.{keys-same, other-keys}
@@ -94,14 +95,17 @@ pub text-rising : (text : List ℕ) → Rising 1 (numbers (lines_of (words_of te
 text-rising text = lines-rising (words_of text) (words-rising text (record { place = Gap; here = 1; line = 1 }) (le_refl 1))
 
 -- after a gate no list may follow; what does not fit counts as past too
-abbrev past : Phase → Bool
-past Before = false
-past Heading = false
-past (Cover width ending) = true
-past Ended = true
-past Misfit = true
+abbrev past_phase : Phase → Bool
+past_phase Before = false
+past_phase Heading = false
+past_phase (Cover width ending) = true
+past_phase Ended = true
 
-either : (q : Bool) (p r : Phase) → past p ≡ true → past r ≡ true → past (cond q p r) ≡ true
+abbrev past : Option Phase → Bool
+past None = true
+past (Some p) = past_phase p
+
+either : (q : Bool) (p r : Option Phase) → past p ≡ true → past r ≡ true → past (cond q p r) ≡ true
 either true p r e f = e
 either false p r e f = f
 
@@ -113,18 +117,19 @@ end-past : (further : ℕ) → past (after_end further) ≡ true
 unfolding after_end
 end-past further = either (eqb further 0) _ _ refl refl
 
-value-past : (width ending x : ℕ) → past (after_value width ending x) ≡ true
-unfolding after_value
-value-past width ending x = either (eqb x 2) _ _ refl (either (eqb ending 2) _ _ refl (either (eqb ending x) _ _ refl refl))
+value-past : (width : ℕ) (ending value : Option Bool) → past (after_value width ending value) ≡ true
+value-past width ending None = refl
+value-past width None (Some x) = refl
+value-past width (Some y) (Some x) = either (cond y x (not x)) _ _ refl refl
 
-line-past : (width ending : ℕ) (ws : List (List ℕ)) → past (after_line width ending ws) ≡ true
+line-past : (width : ℕ) (ending : Option Bool) (ws : List (List ℕ)) → past (after_line width ending ws) ≡ true
 unfolding after_line
 line-past width ending ws =
     either (eqb width 0) _ _
     (either (eqb (length ws) 1) _ _ (value-past width ending (value_of (get_or ws 0 []))) refl)
     (either (eqb (length ws) 2) _ _ (either (is_row width (get_or ws 0 [])) _ _ (value-past width ending (value_of (get_or ws 1 []))) refl) refl)
 
-stays-past : (p : Phase) (k : Keyword) (w : List ℕ) (ws : List (List ℕ)) → past p ≡ true → past (fit_as p k w ws) ≡ true
+stays-past : (p : Phase) (k : Keyword) (w : List ℕ) (ws : List (List ℕ)) → past_phase p ≡ true → past (fit_as p k w ws) ≡ true
 stays-past Before k w ws e = never true refl (sym e)
 stays-past Heading k w ws e = never true refl (sym e)
 stays-past (Cover width ending) Model w ws e = refl
@@ -134,33 +139,29 @@ stays-past (Cover width ending) Names w ws e = gate-past ws
 stays-past (Cover width ending) End w ws e = end-past (length ws)
 stays-past (Cover width ending) Other w ws e = line-past width ending (w ∷ ws)
 stays-past Ended k w ws e = refl
-stays-past Misfit k w ws e = refl
 
 names-past : (p : Phase) (w : List ℕ) (ws : List (List ℕ)) → past (fit_as p Names w ws) ≡ true
 names-past Before w ws = refl
 names-past Heading w ws = gate-past ws
 names-past (Cover width ending) w ws = gate-past ws
 names-past Ended w ws = refl
-names-past Misfit w ws = refl
 
 names-line : (p : Phase) (ws : List (List ℕ)) → key_of ws ≡ gates_key → past (fit p ws) ≡ true
 names-line p [] e = refl
 names-line p (w ∷ ws) e = rw e (names-past p w ws)
 
 -- a list that follows does not fit
-inputs-misfit : (w : List ℕ) (ws : List (List ℕ)) (p : Phase) → past p ≡ true → is_misfit (fit_as p Inputs w ws) ≡ true
+inputs-misfit : (w : List ℕ) (ws : List (List ℕ)) (p : Phase) → past_phase p ≡ true → fit_as p Inputs w ws ≡ None
 inputs-misfit w ws Before e = never true refl (sym e)
 inputs-misfit w ws Heading e = never true refl (sym e)
 inputs-misfit w ws (Cover width ending) e = refl
 inputs-misfit w ws Ended e = refl
-inputs-misfit w ws Misfit e = refl
 
-outputs-misfit : (w : List ℕ) (ws : List (List ℕ)) (p : Phase) → past p ≡ true → is_misfit (fit_as p Outputs w ws) ≡ true
+outputs-misfit : (w : List ℕ) (ws : List (List ℕ)) (p : Phase) → past_phase p ≡ true → fit_as p Outputs w ws ≡ None
 outputs-misfit w ws Before e = never true refl (sym e)
 outputs-misfit w ws Heading e = never true refl (sym e)
 outputs-misfit w ws (Cover width ending) e = refl
 outputs-misfit w ws Ended e = refl
-outputs-misfit w ws Misfit e = refl
 
 -- the names of a line
 names-rising : (x : ℕ) (ns : List (List ℕ)) (ws : List Word) {b : ℕ} → b ≤ x → Rising x (word_lines ws) → Rising b (word_lines (map (word_in x) ns ++ ws))
@@ -172,34 +173,42 @@ same_line x [] = none
 same_line x (n ∷ ns) = more (le_refl x) (same_line x ns)
 
 -- lists of a keyword that may stand before gates only
-module _ (key : Keyword) (heading : (w : List ℕ) (ws : List (List ℕ)) (p : Phase) → past p ≡ true → is_misfit (fit_as p key w ws) ≡ true)
+module _ (key : Keyword) (heading : (w : List ℕ) (ws : List (List ℕ)) (p : Phase) → past_phase p ≡ true → fit_as p key w ws ≡ None)
     (no-gate : key ≡ gates_key → ⊥) where
-  none-past : (p : Phase) (ls : List Line) (last : ℕ) → past p ≡ true → fault p ls last ≡ Fine → listed key ls ≡ []
-  none-past p [] last e f = refl
-  none-past p (l ∷ ls) last e f = go l.words refl (fitted p l ls last f) (λ g. none-past (fit p l.words) ls last g (later p l ls last f))
+  -- a line that fits after a gate is no such list, and what follows it still comes after a gate
+  past-line : (p : Phase) (ws : List (List ℕ)) (q : Phase) → past_phase p ≡ true → fit p ws ≡ Some q → (key_of ws ≡ key → ⊥) × (past_phase q ≡ true)
+  past-line p [] q e f = absurd (let y : ◌≡◌ {A = ℕ} 0 1 = cc in omega arith)
+  past-line p (w ∷ ws) q e f = (λ k. no-list (rw k at f), rw f at (stays-past p (keyword_of w) w ws e))
     where
-      go : (ws : List (List ℕ)) → l.words ≡ ws → is_misfit (fit p l.words) ≡ false → (past (fit p l.words) ≡ true → listed key ls ≡ []) → listed key (l ∷ ls) ≡ []
-      go [] s fits ih = never true refl (rw s at fits)
-      go (w ∷ ws) s fits ih =
-          let other : key_of l.words ≡ key → ⊥ = λ k. never _ (rw (rw s at k) (heading w ws p e)) (rw s at fits) in
-          rw (other-keys (key_of l.words) key other) (ih (rw s (stays-past p (keyword_of w) w ws e)))
+      no-list : fit_as p key w ws ≡ Some q → ⊥
+      no-list g = let z : None ≡ Some q = rw (heading w ws p e) at g in let y : ◌≡◌ {A = ℕ} 0 1 = cc in omega arith
+
+  none-past : (p : Phase) (ls : List Line) (last : ℕ) → past_phase p ≡ true → fault p ls last ≡ Fine → listed key ls ≡ []
+  none-past p [] last e f = refl
+  none-past p (l ∷ ls) last e f =
+      let g = fitted p l ls last f in
+      let on = past-line p l.words g.next e g.fits in
+      rw (other-keys (key_of l.words) key on.0) (none-past g.next ls last on.1 g.later)
 
   pub order : (p : Phase) (ls : List Line) (last : ℕ) {b : ℕ} → Rising b (numbers ls) → fault p ls last ≡ Fine
       → Rising b (word_lines (listed key ls ++ listed gates_key ls))
   order p [] last r f = none
   order p (l ∷ ls) last {b} (more h r) f =
-      go (same_key (key_of l.words) key) refl (same_key (key_of l.words) gates_key) refl (order (fit p l.words) ls last r (later p l ls last f))
+      let fit-line = fitted p l ls last f in
+      go fit-line.next fit-line.fits fit-line.later (same_key (key_of l.words) key) refl (same_key (key_of l.words) gates_key) refl (order fit-line.next ls last r fit-line.later)
     where
-      go : (d : Bool) → same_key (key_of l.words) key ≡ d → (g : Bool) → same_key (key_of l.words) gates_key ≡ g
+      go : (q : Phase) → fit p l.words ≡ Some q → fault q ls last ≡ Fine
+          → (d : Bool) → same_key (key_of l.words) key ≡ d → (g : Bool) → same_key (key_of l.words) gates_key ≡ g
           → Rising l.number (word_lines (listed key ls ++ listed gates_key ls)) → Rising b (word_lines (listed key (l ∷ ls) ++ listed gates_key (l ∷ ls)))
-      go true e true g ih = absurd (no-gate (sym (keys-same (key_of l.words) key e) ∙ keys-same (key_of l.words) gates_key g))
-      go true e false g ih =
+      go q fits later true e true g ih = absurd (no-gate (sym (keys-same (key_of l.words) key e) ∙ keys-same (key_of l.words) gates_key g))
+      go q fits later true e false g ih =
           rw (e, g, other-keys key gates_key no-gate, append_assoc (map (word_in l.number) (after l.words)) (listed key ls) (listed gates_key ls))
           (names-rising l.number (after l.words) (listed key ls ++ listed gates_key ls) h ih)
-      go false e true g ih =
-          let nothing = none-past (fit p l.words) ls last (names-line p l.words (keys-same (key_of l.words) gates_key g)) (later p l ls last f) in
+      go q fits later false e true g ih =
+          let gone : past_phase q ≡ true = rw fits at (names-line p l.words (keys-same (key_of l.words) gates_key g)) in
+          let nothing = none-past q ls last gone later in
           rw (e, g, nothing) (more h (rw nothing at ih))
-      go false e false g ih = rw (e, g) (lower h ih)
+      go q fits later false e false g ih = rw (e, g) (lower h ih)
 
 pub front-rising : (ws us : List Word) {b : ℕ} → Rising b (word_lines (ws ++ us)) → Rising b (word_lines ws)
 front-rising [] us r = none

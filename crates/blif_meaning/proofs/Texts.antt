@@ -16,7 +16,6 @@ use Rattle.statements.specs.Fit.{
   after_list,
   after_gate,
   after_end,
-  after_value,
   after_line,
 }
 use Rattle.placing.specs.Placing.{ready, loop_fault}
@@ -30,6 +29,6 @@ use Rattle.blif_meaning.specs.Texts.{TextsHold}
 pub texts-hold : TextsHold
 unfolding
     blank joins after name_byte is_name key_model key_inputs key_outputs key_names key_end keyword_of value_of row_byte is_row after_model after_list after_gate after_end
-    after_value after_line count_fault again_fault unknown_fault names_fault ready loop_fault byte_meets cover_value table_of cover_table image_with model_net blif_refusal
+    after_line count_fault again_fault unknown_fault names_fault ready loop_fault byte_meets cover_value table_of cover_table image_with model_net blif_refusal
     image_over
 texts-hold = record { keywords-hold = refl; answers-hold = refl; slices_hold = refl }

@@ -1,7 +1,9 @@
 -- The rows of a table as the bits of a number: what a byte of a line, a further line and the ending do with them. Assumes nothing.
+use Rattle.std.specs.Option.{option_eq}
+use Rattle.std.specs.Prelude.{Option, Some, None}
 use Prim.Native.Nat.{ℕ, zero, suc, ◌+◌, ◌-◌, ◌*◌, ◌/◌, ◌%◌, ◌^◌, ◌<◌, ◌≤◌, max}
-use mathlib.Core.Path.{◌≡◌, refl, ap, ap₂, sym, ◌∙◌}
-use mathlib.Core.Bool.{Bool, true, false, cond, not}
+use mathlib.Core.Path.{◌≡◌, refl, ap, ap₂, sym, ◌∙◌, fun_ext}
+use mathlib.Core.Bool.{beq, Bool, true, false, cond, not}
 use mathlib.Core.List.{List, [], ◌∷◌}
 use native.Mathlib.Nat.{pow-succ', pow-le-pow_right, zero-add, suc-add, mod-lt, zero-lt-suc}
 use native.Mathlib.Omega.{arith}
@@ -15,7 +17,7 @@ use borrow.Author.Tests.{eq-eqb, ne_eqb}
 use Rattle.figure.specs.Figure.{bit_of, is_odd}
 use Rattle.netlist.specs.Netlist.{input_values}
 use Rattle.statements.specs.Lines.{Line}
-use Rattle.covers.specs.Cover.{byte_meets, meets, some_meets, ending_of, cover_value, table_from, table_of, cover_table}
+use Rattle.covers.specs.Cover.{byte_meets, meets, some_meets, ending_of, value_where, cover_value, table_from, table_of, cover_table}
 
 -- ---- a bit before others
 
@@ -221,16 +223,30 @@ line-turn bs i rows above b f p q r e = rw add-one (rw (e, p, q, r) (line-more b
 
 -- ---- the ending
 
-pub ends-in-one : (a : ℕ) (cover : List Line) → (ending_of cover ≡ 0 → ⊥) → table_of a (some_meets cover) ≡ cover_table a cover
-unfolding cover_table cover_value
-ends-in-one a cover e = ap (λ (b : Bool). table_of a (λ vs. cond b (not (some_meets cover vs)) (some_meets cover vs))) (sym (ne_eqb (ending_of cover) 0 e))
+-- whether the lines end in 0
+abbrev pub ends_in_zero : Option Bool → Bool
+ends_in_zero e = option_eq beq e (Some false)
 
-pub ends-in-zero : (a : ℕ) (cover : List Line) (all : ℕ) → ending_of cover ≡ 0 → all + 1 ≡ 2 ^ 2 ^ a → all - table_of a (some_meets cover) ≡ cover_table a cover
+zero-ends : (e : Option Bool) → ends_in_zero e ≡ true → (met : Bool) → not met ≡ value_where e met
+zero-ends None q met = let y : ◌≡◌ {A = ℕ} 0 1 = cc in absurd (omega arith)
+zero-ends (Some true) q met = let y : ◌≡◌ {A = ℕ} 0 1 = cc in absurd (omega arith)
+zero-ends (Some false) q met = refl
+
+other-ends : (e : Option Bool) → ends_in_zero e ≡ false → (met : Bool) → met ≡ value_where e met
+other-ends None q met = refl
+other-ends (Some true) q met = refl
+other-ends (Some false) q met = let y : ◌≡◌ {A = ℕ} 0 1 = cc in absurd (omega arith)
+
+pub ends-in-one : (a : ℕ) (cover : List Line) → ends_in_zero (ending_of cover) ≡ false → table_of a (some_meets cover) ≡ cover_table a cover
+unfolding cover_table cover_value
+ends-in-one a cover e = ap (table_of a) (fun_ext (λ vs. other-ends (ending_of cover) e (some_meets cover vs)))
+
+pub ends-in-zero : (a : ℕ) (cover : List Line) (all : ℕ) → ends_in_zero (ending_of cover) ≡ true → all + 1 ≡ 2 ^ 2 ^ a → all - table_of a (some_meets cover) ≡ cover_table a cover
 unfolding cover_table cover_value table_of
 ends-in-zero a cover all e q =
     let some : ℕ → Bool = λ i. some_meets cover (input_values a i) in
     let none : all - table_from some 0 (2 ^ a) ≡ table_from (λ i. not (some i)) 0 (2 ^ a) = omega (arith, table-rest some 0 (2 ^ a)) in
-    none ∙ ap (λ (b : Bool). table_from (λ i. cond b (not (some i)) (some i)) 0 (2 ^ a)) (sym (eq-eqb (ending_of cover) 0 e))
+    none ∙ ap (λ (f : ℕ → Bool). table_from f 0 (2 ^ a)) (fun_ext (λ i. zero-ends (ending_of cover) e (some i)))
 
 -- ---- no line is left
 

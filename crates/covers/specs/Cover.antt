@@ -1,5 +1,5 @@
 -- Covers and the tables that equal them.
-use Rattle.std.specs.Prelude.{ℕ, zero, suc, ◌+◌, ◌*◌, ◌^◌, Bool, true, false, cond, not, List, [], ◌∷◌, get_or, eqb}
+use Rattle.std.specs.Prelude.{ℕ, zero, suc, ◌+◌, ◌*◌, ◌^◌, Bool, true, false, cond, not, Option, Some, None, List, [], ◌∷◌, get_or, eqb}
 use Rattle.figure.specs.Figure.{bit_of}
 use Rattle.netlist.specs.Netlist.{input_values}
 use Rattle.statements.specs.Lines.{Line}
@@ -20,14 +20,19 @@ abbrev pub some_meets : List Line → List Bool → Bool
 some_meets [] vs = false
 some_meets (l ∷ ls) vs = cond (meets (get_or l.words 0 []) vs) true (some_meets ls vs)
 
--- what the lines end in, 0 or 1; 2 where there is none
-abbrev pub ending_of : List Line → ℕ
-ending_of [] = 2
+-- what the lines end in; none where there is none
+abbrev pub ending_of : List Line → Option Bool
+ending_of [] = None
 ending_of (l ∷ ls) = value_of (last_of l.words)
 
 -- lines that end in 1 say where the gate is 1, lines that end in 0 where it is 0; an empty cover is 0
+abbrev pub value_where : Option Bool → Bool → Bool
+value_where (Some false) met = not met
+value_where (Some true) met = met
+value_where None met = met
+
 unfoldable pub cover_value : List Line → List Bool → Bool
-cover_value cover vs = cond (eqb (ending_of cover) 0) (not (some_meets cover vs)) (some_meets cover vs)
+cover_value cover vs = value_where (ending_of cover) (some_meets cover vs)
 
 -- the table whose bits are f i, f (i + 1) and so on, k of them
 abbrev pub table_from : (ℕ → Bool) → ℕ → ℕ → ℕ

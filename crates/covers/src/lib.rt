@@ -72,16 +72,16 @@ fn cover_rows(
     rows
 }
 
-// What the lines of the cover that begins at word `from` end in.
-fn ending(text: &[u8], starts: &[u16], lines: &[u16], n: usize, from: usize) -> usize
+// What the lines of the cover that begins at word `from` end in, if there are any.
+fn ending(text: &[u8], starts: &[u16], lines: &[u16], n: usize, from: usize) -> Option<bool>
     requires { Places text.now starts.now n × (n ≤ length lines.now) × (n ≤ most_words) × (from ≤ n) }
     ensures { result ≡ ending_of (cover_of (lines_from text.now starts.now lines.now n from)) }
 {
     if from == n {
-        return 2;
+        return None;
     }
     if model::key_at(text, starts, from) != Keyword::Other {
-        return 2;
+        return None;
     }
     statements::value_at(text, starts, from + statements::line_rest(lines, from, n))
 }
@@ -114,7 +114,7 @@ pub fn table(
     ensures upper_bound { result < 65_536 }
 {
     let rows = cover_rows(text, starts, lines, n, from, width);
-    if ending(text, starts, lines, n, from) == 0 {
+    if ending(text, starts, lines, n, from) == Some(false) {
         return all_rows(width) - rows;
     }
     rows

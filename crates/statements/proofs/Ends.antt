@@ -1,7 +1,8 @@
 -- The last line with words is `.end`, where refusal 18 finds nothing. Assumes nothing.
 use Prim.Native.Nat.{ℕ, suc, ◌+◌}
 use mathlib.Core.Path.{◌≡◌, refl}
-use mathlib.Core.Bool.{Bool, true, false, cond}
+use mathlib.Core.Bool.{Bool, true, false, cond, not}
+use Rattle.std.specs.Prelude.{Option, Some, None}
 use mathlib.Core.List.{List, [], ◌∷◌}
 use native.Mathlib.Omega.{arith}
 use lib.ListN.{length, get_or}
@@ -31,14 +32,13 @@ use Rattle.statements.specs.Fit.{
   after_line,
   fit_as,
   fit,
-  is_misfit,
   is_ended,
   fault,
 }
 use Rattle.statements.specs.declared.Keyword.{Keyword}
 use Rattle.statements.specs.declared.Keyword.TheVariants.{Model, Inputs, Outputs, Names, End, Other}
 use Rattle.statements.specs.declared.Phase.{Phase}
-use Rattle.statements.specs.declared.Phase.TheVariants.{Before, Heading, Cover, Ended, Misfit}
+use Rattle.statements.specs.declared.Phase.TheVariants.{Before, Heading, Cover, Ended}
 use Rattle.statements.specs.Statements.{EndIsLast}
 use Rattle.refusal.specs.declared.Cause.TheVariants.{TextLine}
 
@@ -46,29 +46,35 @@ use Rattle.refusal.specs.declared.Cause.TheVariants.{TextLine}
 pub never : {A : Type 0} (b : Bool) → b ≡ true → b ≡ false → A
 never b e f = absurd (let y : ◌≡◌ {A = ℕ} 0 1 = cc in omega arith)
 
--- a choice of phases of which neither is the end
-neither : (b : Bool) (p q : Phase) → is_ended p ≡ false → is_ended q ≡ false → is_ended (cond b p q) ≡ false
+-- whether a line ends the text
+abbrev ends : Option Phase → Bool
+ends None = false
+ends (Some p) = is_ended p
+
+-- a choice of which neither ends it
+neither : (b : Bool) (p q : Option Phase) → ends p ≡ false → ends q ≡ false → ends (cond b p q) ≡ false
 neither true p q e f = e
 neither false p q e f = f
 
 -- no line but `.end` ends a text
-model-on : (ws : List (List ℕ)) → is_ended (after_model ws) ≡ false
+model-on : (ws : List (List ℕ)) → ends (after_model ws) ≡ false
 unfolding after_model
 model-on ws = neither (eqb (length ws) 1) _ _ (neither (all_names ws) _ _ refl refl) refl
 
-list_on : (ws : List (List ℕ)) → is_ended (after_list ws) ≡ false
+list_on : (ws : List (List ℕ)) → ends (after_list ws) ≡ false
 unfolding after_list
 list_on ws = neither (all_names ws) _ _ refl refl
 
-gate-on : (ws : List (List ℕ)) → is_ended (after_gate ws) ≡ false
+gate-on : (ws : List (List ℕ)) → ends (after_gate ws) ≡ false
 unfolding after_gate
 gate-on ws = neither (leb 1 (length ws)) _ _ (neither (leb (length ws) (most_pins + 1)) _ _ (neither (all_names ws) _ _ refl refl) refl) refl
 
-value_on : (width ending x : ℕ) → is_ended (after_value width ending x) ≡ false
-unfolding after_value
-value_on width ending x = neither (eqb x 2) _ _ refl (neither (eqb ending 2) _ _ refl (neither (eqb ending x) _ _ refl refl))
+value_on : (width : ℕ) (ending value : Option Bool) → ends (after_value width ending value) ≡ false
+value_on width ending None = refl
+value_on width None (Some x) = refl
+value_on width (Some y) (Some x) = neither (cond y x (not x)) _ _ refl refl
 
-line_on : (width ending : ℕ) (ws : List (List ℕ)) → is_ended (after_line width ending ws) ≡ false
+line_on : (width : ℕ) (ending : Option Bool) (ws : List (List ℕ)) → ends (after_line width ending ws) ≡ false
 unfolding after_line
 line_on width ending ws =
     neither (eqb width 0) _ _
@@ -76,7 +82,7 @@ line_on width ending ws =
     (neither (eqb (length ws) 2) _ _ (neither (is_row width (get_or ws 0 [])) _ _ (value_on width ending (value_of (get_or ws 1 []))) refl) refl)
 
 -- `.end` ends it where no word follows
-alone : (ws : List (List ℕ)) → is_ended (after_end (length ws)) ≡ true → ws ≡ []
+alone : (ws : List (List ℕ)) → ends (after_end (length ws)) ≡ true → ws ≡ []
 unfolding after_end
 alone [] e = refl
 alone (w ∷ ws) e = never false (rw (ne_eqb (suc (length ws)) 0 (λ h. omega arith)) at e) refl
@@ -96,7 +102,7 @@ keyword-end w e =
     go false p false q false r false s true t = same-equal w key_end t
     go false p false q false r false s false t = absurd (let z : Other ≡ End = rw (p, q, r, s, t) at e in let y : ◌≡◌ {A = ℕ} 0 1 = cc in omega arith)
 
-only_end : (p : Phase) (k : Keyword) (w : List ℕ) (ws : List (List ℕ)) → is_ended (fit_as p k w ws) ≡ true → (k ≡ End) × (ws ≡ [])
+only_end : (p : Phase) (k : Keyword) (w : List ℕ) (ws : List (List ℕ)) → ends (fit_as p k w ws) ≡ true → (k ≡ End) × (ws ≡ [])
 only_end Before Model w ws e = never _ e (model-on ws)
 only_end Before Inputs w ws e = never _ e refl
 only_end Before Outputs w ws e = never _ e refl
@@ -116,28 +122,33 @@ only_end (Cover width ending) Names w ws e = never _ e (gate-on ws)
 only_end (Cover width ending) End w ws e = (refl, alone ws e)
 only_end (Cover width ending) Other w ws e = never _ e (line_on width ending (w ∷ ws))
 only_end Ended k w ws e = never _ e refl
-only_end Misfit k w ws e = never _ e refl
 
-the_end : (p : Phase) (ws : List (List ℕ)) → is_ended (fit p ws) ≡ true → ws ≡ key_end ∷ []
+the_end : (p : Phase) (ws : List (List ℕ)) → ends (fit p ws) ≡ true → ws ≡ key_end ∷ []
 the_end p [] e = never _ e refl
 the_end p (w ∷ ws) e =
     let o = only_end p (keyword_of w) w ws e in
     rw (o.1, keyword-end w o.0)
 
 -- where no fault is found a line fits, and it leaves the fault of those that follow
-pub fitted : (p : Phase) (l : Line) (ls : List Line) (last : ℕ) → fault p (l ∷ ls) last ≡ Fine → is_misfit (fit p l.words) ≡ false
-fitted p l ls last e = go (is_misfit (fit p l.words)) refl
-  where
-    go : (b : Bool) → is_misfit (fit p l.words) ≡ b → is_misfit (fit p l.words) ≡ false
-    go true q = refused-not-fine TextLine l.number (rw q at e)
-    go false q = q
+pub record Fitted (p : Phase) (l : Line) (ls : List Line) (last : ℕ) : Type 0 where
+  pub next : Phase
+  pub fits : fit p l.words ≡ Some next
+  pub later : fault next ls last ≡ Fine
 
-pub later : (p : Phase) (l : Line) (ls : List Line) (last : ℕ) → fault p (l ∷ ls) last ≡ Fine → fault (fit p l.words) ls last ≡ Fine
-later p l ls last e = rw (fitted p l ls last e) at e
+pub fitted : (p : Phase) (l : Line) (ls : List Line) (last : ℕ) → fault p (l ∷ ls) last ≡ Fine → Fitted p l ls last
+fitted p l ls last e = go (fit p l.words) refl
+  where
+    go : (o : Option Phase) → fit p l.words ≡ o → Fitted p l ls last
+    go None q = refused-not-fine TextLine l.number (rw q at e)
+    go (Some next) q = record { next = next; fits = q; later = rw q at e }
 
 last-from : (p : Phase) (l : Line) (ls : List Line) (last : ℕ) → fault p (l ∷ ls) last ≡ Fine → (last_line (l ∷ ls)).words ≡ key_end ∷ []
-last-from p l [] last e = the_end p l.words (unless-fine (is_ended (fit p l.words)) TextLine last (later p l [] last e))
-last-from p l (k ∷ ls) last e = last-from (fit p l.words) k ls last (later p l (k ∷ ls) last e)
+last-from p l [] last e =
+    let f = fitted p l [] last e in
+    the_end p l.words (rw f.fits (unless-fine (is_ended f.next) TextLine last f.later))
+last-from p l (k ∷ ls) last e =
+    let f = fitted p l (k ∷ ls) last e in
+    last-from f.next k ls last f.later
 
 pub end-is-last : EndIsLast
 end-is-last [] last e = refused-not-fine TextLine last e

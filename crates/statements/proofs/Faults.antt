@@ -1,7 +1,8 @@
 -- The first fault, line by line. Assumes nothing.
 use Prim.Native.Nat.{ℕ, suc, ◌+◌, ◌-◌, ◌<◌, ◌≤◌}
-use mathlib.Core.Path.{◌≡◌, sym, subst}
-use mathlib.Core.Bool.{true, false}
+use mathlib.Core.Path.{◌≡◌, refl, sym, subst}
+use Rattle.std.specs.Prelude.{Some, None}
+use mathlib.Core.Bool.{false}
 use mathlib.Core.List.{List, ◌∷◌}
 use native.Mathlib.Numerals.{add-one}
 use native.Mathlib.Omega.{arith}
@@ -11,8 +12,9 @@ use Rattle.refusal.specs.Judgement.{refused}
 use Rattle.refusal.specs.Judgement.{refuse_unless}
 use Rattle.texts.specs.Words.{held}
 use Rattle.statements.specs.Lines.{line_of, lines_of, bytes_from, alike}
-use Rattle.statements.specs.Fit.{fit, is_misfit, is_ended, fault}
+use Rattle.statements.specs.Fit.{fit, is_ended, fault}
 use Rattle.statements.specs.declared.Phase.{Phase}
+use Rattle.statements.specs.declared.Phase.TheVariants.{Before, Heading, Cover, Ended}
 use Rattle.statements.proofs.Lines.{one_less, lines_split}
 use Rattle.refusal.specs.declared.Cause.TheVariants.{TextLine}
 
@@ -31,14 +33,20 @@ module _ (t s l : List ℕ) (n last : ℕ) (p : Phase) (k r : ℕ) (inside : k <
       left : n - (k + 1) - r ≡ n - (k + suc r)
       left = omega arith
 
-  pub fault-here : (q : Phase) → q ≡ fit p (bytes_from t s k (r + 1)) → is_misfit q ≡ true → fault_from t s l n last p k ≡ refused TextLine (get_or l k 0)
-  fault-here q e h = rw (split, ← e, h)
+  pub fault-here : None ≡ fit p (bytes_from t s k (r + 1)) → fault_from t s l n last p k ≡ refused TextLine (get_or l k 0)
+  fault-here e = rw (split, ← e)
 
-  pub fault-later : (q : Phase) → q ≡ fit p (bytes_from t s k (r + 1)) → is_misfit q ≡ false → fault_from t s l n last p k ≡ fault_from t s l n last q (k + (r + 1))
-  fault-later q e h = rw (split, ← e, h)
+  pub fault-later : (q : Phase) → Some q ≡ fit p (bytes_from t s k (r + 1)) → fault_from t s l n last p k ≡ fault_from t s l n last q (k + (r + 1))
+  fault-later q e = rw (split, ← e)
 
 pub fault-end : (t s l : List ℕ) (n last : ℕ) (p : Phase) (k : ℕ) → n ≤ k → fault_from t s l n last p k ≡ refuse_unless (is_ended p) TextLine last
 fault-end t s l n last p k past = rw none
   where
     none : n - k ≡ 0
     none = omega arith
+
+pub not-ended : (p : Phase) → (p ≡ Ended → ⊥) → is_ended p ≡ false
+not-ended Before other = refl
+not-ended Heading other = refl
+not-ended (Cover width ending) other = refl
+not-ended Ended other = absurd (other refl)

@@ -1,13 +1,13 @@
 -- Laws of fitting lines. Assumes nothing.
 use Prim.Native.Nat.{ℕ, ◌+◌, ◌<◌, ◌≤◌}
 use mathlib.Core.Path.{◌≡◌}
-use mathlib.Core.Bool.{true, false}
+use mathlib.Core.Bool.{Bool, true, false}
 use mathlib.Core.List.{List, [], ◌∷◌}
 use native.Mathlib.Numerals.{add-one}
 use lib.ListN.{length, get_or, drop, drop_of_length-le}
 use lib.Seq.{drop-cons}
 use borrow.Author.Tests.{eq-eqb, ne_eqb}
-use Rattle.statements.specs.declared.Phase.TheVariants.{Misfit}
+use Rattle.std.specs.Prelude.{Option, Some, None}
 use Rattle.names.specs.Names.{same}
 use Rattle.statements.specs.declared.Keyword.TheVariants.{Model, Inputs, Outputs, Names, End, Other}
 use Rattle.statements.specs.Fit.{key_model, key_inputs, key_outputs, key_names, key_end, keyword_of, value_of, row_byte, row_bytes, is_row, after_value, after_line}
@@ -40,17 +40,17 @@ module _ (w : List ℕ) where
 
 -- what a cover line ends in
 module _ (w : List ℕ) where
-  pub is_zero : same w (48 ∷ []) ≡ true → 0 ≡ value_of w
+  pub is_zero : same w (48 ∷ []) ≡ true → Some false ≡ value_of w
   unfolding value_of
   is_zero e = simp e
 
-  pub is_one : same w (48 ∷ []) ≡ false → same w (49 ∷ []) ≡ true → 1 ≡ value_of w
+  pub is_one : same w (48 ∷ []) ≡ false → same w (49 ∷ []) ≡ true → Some true ≡ value_of w
   unfolding value_of
   is_one e f = simp (e, f)
 
-  pub is-two : same w (48 ∷ []) ≡ false → same w (49 ∷ []) ≡ false → 2 ≡ value_of w
+  pub is-neither : same w (48 ∷ []) ≡ false → same w (49 ∷ []) ≡ false → None ≡ value_of w
   unfolding value_of
-  is-two e f = simp (e, f)
+  is-neither e f = simp (e, f)
 
 module _ (s : List ℕ) (i : ℕ) where
   pub row_more : i < length s → row_byte (get_or s i 0) ≡ true → row_bytes (drop i s) ≡ row_bytes (drop (i + 1) s)
@@ -63,8 +63,8 @@ module _ (s : List ℕ) (i : ℕ) where
   row-end h = rw (drop_of_length-le s h)
 
 -- cover lines
-module _ (width ending : ℕ) (ws : List (List ℕ)) where
-  pub bare-many : width ≡ 0 → (length ws ≡ 1 → ⊥) → Misfit ≡ after_line width ending ws
+module _ (width : ℕ) (ending : Option Bool) (ws : List (List ℕ)) where
+  pub bare-many : width ≡ 0 → (length ws ≡ 1 → ⊥) → None ≡ after_line width ending ws
   unfolding after_line
   bare-many e n = simp (eq-eqb _ _ e, ne_eqb _ _ n)
 
@@ -72,7 +72,7 @@ module _ (width ending : ℕ) (ws : List (List ℕ)) where
   unfolding after_line
   bare e n = simp (eq-eqb _ _ e, eq-eqb _ _ n)
 
-  pub row-many : (width ≡ 0 → ⊥) → (length ws ≡ 2 → ⊥) → Misfit ≡ after_line width ending ws
+  pub row-many : (width ≡ 0 → ⊥) → (length ws ≡ 2 → ⊥) → None ≡ after_line width ending ws
   unfolding after_line
   row-many e n = simp (ne_eqb _ _ e, ne_eqb _ _ n)
 
@@ -81,6 +81,6 @@ module _ (width ending : ℕ) (ws : List (List ℕ)) where
   unfolding after_line
   row-right e n r = simp (ne_eqb _ _ e, eq-eqb _ _ n, r)
 
-  pub row-wrong : (width ≡ 0 → ⊥) → length ws ≡ 2 → is_row width (get_or ws 0 []) ≡ false → Misfit ≡ after_line width ending ws
+  pub row-wrong : (width ≡ 0 → ⊥) → length ws ≡ 2 → is_row width (get_or ws 0 []) ≡ false → None ≡ after_line width ending ws
   unfolding after_line
   row-wrong e n r = simp (ne_eqb _ _ e, eq-eqb _ _ n, r)

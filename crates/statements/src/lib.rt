@@ -4,7 +4,7 @@
 ghost use Rattle.std.specs.Prelude.{◌≡◌, ◌+◌, ◌-◌, ◌<◌, ◌≤◌, length, get_or, drop};
 ghost use Rattle.statements.specs.Lines.{Places, bytes_from, alike, lines_of};
 ghost use Rattle.statements.specs.Fit.{keyword_of, all_names, value_of, row_byte, is_row, after_model, after_list, after_gate, after_end};
-ghost use Rattle.statements.specs.Fit.{after_value, after_line, after_first, after_heading, after_cover, fit, is_misfit, is_ended, fault};
+ghost use Rattle.statements.specs.Fit.{after_value, after_line, after_first, after_heading, after_cover, fit, fault};
 ghost use Rattle.texts.specs.Words.{held, word_of};
 ghost use Rattle.names.specs.Names.{is_name};
 
@@ -20,14 +20,13 @@ pub enum Keyword {
     Other,
 }
 
-// What may follow: before `.model`; inputs, outputs and gates; a cover's lines and gates; nothing. `ending` is 2 before a cover's first line.
+// What may follow: before `.model`; inputs, outputs and gates; a cover's lines and gates; nothing. A cover has no ending before its first line.
 #[derive(Clone, Copy)]
 pub enum Phase {
     Before,
     Heading,
-    Cover { width: usize, ending: usize },
+    Cover { width: usize, ending: Option<bool> },
     Ended,
-    Misfit,
 }
 
 pub fn keyword_of(w: &[u8]) -> Keyword
@@ -90,19 +89,20 @@ pub fn line_rest(lines: &[u16], k: usize, n: usize) -> usize
     i - (k + 1)
 }
 
-fn value_of(w: &[u8]) -> usize
+// What a cover line ends in: 0 or 1, or neither.
+fn value_of(w: &[u8]) -> Option<bool>
     ensures { result ≡ value_of w.now }
 {
     if names::same(w, b"0") {
-        return 0;
+        return Some(false);
     }
     if names::same(w, b"1") {
-        return 1;
+        return Some(true);
     }
-    2
+    None
 }
 
-pub fn value_at(text: &[u8], starts: &[u16], k: usize) -> usize
+pub fn value_at(text: &[u8], starts: &[u16], k: usize) -> Option<bool>
     requires { (k < length starts.now) × (get_or starts.now k 0 < length text.now) }
     ensures { result ≡ value_of (word_of (drop (get_or starts.now k 0) text.now)) }
 {
@@ -147,78 +147,74 @@ fn row_at(text: &[u8], starts: &[u16], k: usize, width: usize) -> bool
     is_row(names::word(text, names::entry(starts, k)), width)
 }
 
-// What follows each kind of line, whose words after the keyword are `many` from `from` on.
-fn after_model(text: &[u8], starts: &[u16], from: usize, many: usize) -> Phase
+// What follows each kind of line that fits, whose words after the keyword are `many` from `from` on.
+fn after_model(text: &[u8], starts: &[u16], from: usize, many: usize) -> Option<Phase>
     requires { Places text.now starts.now (from + many) }
     ensures { result ≡ after_model (bytes_from text.now starts.now from many) }
 {
     if many != 1 {
-        return Phase::Misfit;
+        return None;
     }
     if all_names(text, starts, from, many) {
-        Phase::Heading
+        Some(Phase::Heading)
     } else {
-        Phase::Misfit
+        None
     }
 }
 
-fn after_list(text: &[u8], starts: &[u16], from: usize, many: usize) -> Phase
+#[tactic(auto, unfolding(crate::specs::Fit::after_list))]
+fn after_list(text: &[u8], starts: &[u16], from: usize, many: usize) -> Option<Phase>
     requires { Places text.now starts.now (from + many) }
     ensures { result ≡ after_list (bytes_from text.now starts.now from many) }
 {
     if all_names(text, starts, from, many) {
-        Phase::Heading
+        Some(Phase::Heading)
     } else {
-        Phase::Misfit
+        None
     }
 }
 
 // A gate's line: its sources, and its own name.
 const MOST_NAMES: usize = area::MOST_PINS + 1;
 
-fn after_gate(text: &[u8], starts: &[u16], from: usize, many: usize) -> Phase
+fn after_gate(text: &[u8], starts: &[u16], from: usize, many: usize) -> Option<Phase>
     requires { Places text.now starts.now (from + many) }
     ensures { result ≡ after_gate (bytes_from text.now starts.now from many) }
 {
     if many < 1 {
-        return Phase::Misfit;
+        return None;
     }
     if MOST_NAMES < many {
-        return Phase::Misfit;
+        return None;
     }
     if all_names(text, starts, from, many) {
-        Phase::Cover {
+        Some(Phase::Cover {
             width: many - 1,
-            ending: 2,
-        }
+            ending: None,
+        })
     } else {
-        Phase::Misfit
+        None
     }
 }
 
-fn after_end(many: usize) -> Phase
+#[tactic(auto, unfolding(crate::specs::Fit::after_end))]
+fn after_end(many: usize) -> Option<Phase>
     ensures { result ≡ after_end many }
 {
-    if many == 0 {
-        Phase::Ended
-    } else {
-        Phase::Misfit
-    }
+    if many == 0 { Some(Phase::Ended) } else { None }
 }
 
-fn after_value(width: usize, ending: usize, x: usize) -> Phase
-    ensures { result ≡ after_value width ending x }
+// A cover has one ending, that of its first line.
+fn after_value(width: usize, ending: Option<bool>, value: Option<bool>) -> Option<Phase>
+    ensures { result ≡ after_value width ending value }
 {
-    if x == 2 {
-        return Phase::Misfit;
-    }
-    if ending == 2 {
-        return Phase::Cover { width, ending: x };
-    }
-    if ending == x {
-        Phase::Cover { width, ending: x }
-    } else {
-        Phase::Misfit
+    let value = value?;
+    match ending {
+        Some(first) if first != value => None,
+        _ => Some(Phase::Cover {
+            width,
+            ending: Some(value),
+        }),
     }
 }
 
@@ -227,53 +223,53 @@ fn after_line(
     text: &[u8],
     starts: &[u16],
     width: usize,
-    ending: usize,
+    ending: Option<bool>,
     k: usize,
     rest: usize,
-) -> Phase
+) -> Option<Phase>
     requires { Places text.now starts.now (k + (rest + 1)) }
     ensures { result ≡ after_line width ending (bytes_from text.now starts.now k (rest + 1)) }
 {
     if width == 0 {
         if rest != 0 {
-            return Phase::Misfit;
+            return None;
         }
         return after_value(width, ending, value_at(text, starts, k));
     }
     if rest != 1 {
-        return Phase::Misfit;
+        return None;
     }
     if row_at(text, starts, k, width) {
         return after_value(width, ending, value_at(text, starts, k + 1));
     }
-    Phase::Misfit
+    None
 }
 
-fn after_first(text: &[u8], starts: &[u16], key: Keyword, from: usize, many: usize) -> Phase
+fn after_first(text: &[u8], starts: &[u16], key: Keyword, from: usize, many: usize) -> Option<Phase>
     requires { Places text.now starts.now (from + many) }
     ensures { result ≡ after_first key (bytes_from text.now starts.now from many) }
 {
     match key {
         Keyword::Model => after_model(text, starts, from, many),
-        Keyword::Inputs => Phase::Misfit,
-        Keyword::Outputs => Phase::Misfit,
-        Keyword::Names => Phase::Misfit,
-        Keyword::End => Phase::Misfit,
-        Keyword::Other => Phase::Misfit,
+        _ => None,
     }
 }
 
-fn after_heading(text: &[u8], starts: &[u16], key: Keyword, from: usize, many: usize) -> Phase
+fn after_heading(
+    text: &[u8],
+    starts: &[u16],
+    key: Keyword,
+    from: usize,
+    many: usize,
+) -> Option<Phase>
     requires { Places text.now starts.now (from + many) }
     ensures { result ≡ after_heading key (bytes_from text.now starts.now from many) }
 {
     match key {
-        Keyword::Model => Phase::Misfit,
-        Keyword::Inputs => after_list(text, starts, from, many),
-        Keyword::Outputs => after_list(text, starts, from, many),
+        Keyword::Inputs | Keyword::Outputs => after_list(text, starts, from, many),
         Keyword::Names => after_gate(text, starts, from, many),
         Keyword::End => after_end(many),
-        Keyword::Other => Phase::Misfit,
+        Keyword::Model | Keyword::Other => None,
     }
 }
 
@@ -282,27 +278,25 @@ fn after_cover(
     text: &[u8],
     starts: &[u16],
     width: usize,
-    ending: usize,
+    ending: Option<bool>,
     key: Keyword,
     k: usize,
     rest: usize,
-) -> Phase
+) -> Option<Phase>
     requires { Places text.now starts.now (k + (rest + 1)) }
     ensures { result ≡ after_cover width ending key (word_of (drop (get_or starts.now k 0) text.now)) (bytes_from
         text.now starts.now (k + 1) rest) }
 {
     match key {
-        Keyword::Model => Phase::Misfit,
-        Keyword::Inputs => Phase::Misfit,
-        Keyword::Outputs => Phase::Misfit,
+        Keyword::Model | Keyword::Inputs | Keyword::Outputs => None,
         Keyword::Names => after_gate(text, starts, k + 1, rest),
         Keyword::End => after_end(rest),
         Keyword::Other => after_line(text, starts, width, ending, k, rest),
     }
 }
 
-// What may follow the line of rest + 1 words from word k on.
-fn fit(text: &[u8], starts: &[u16], phase: Phase, k: usize, rest: usize) -> Phase
+// What may follow the line of rest + 1 words from word k on, if that fits.
+fn fit(text: &[u8], starts: &[u16], phase: Phase, k: usize, rest: usize) -> Option<Phase>
     requires { Places text.now starts.now (k + (rest + 1)) }
     ensures { result ≡ fit phase (bytes_from text.now starts.now k (rest + 1)) }
 {
@@ -311,38 +305,7 @@ fn fit(text: &[u8], starts: &[u16], phase: Phase, k: usize, rest: usize) -> Phas
         Phase::Before => after_first(text, starts, key, k + 1, rest),
         Phase::Heading => after_heading(text, starts, key, k + 1, rest),
         Phase::Cover { width, ending } => after_cover(text, starts, width, ending, key, k, rest),
-        Phase::Ended => Phase::Misfit,
-        Phase::Misfit => Phase::Misfit,
-    }
-}
-
-fn is_misfit(phase: Phase) -> bool
-    ensures { result ≡ is_misfit phase }
-{
-    match phase {
-        Phase::Before => false,
-        Phase::Heading => false,
-        Phase::Cover {
-            width: _,
-            ending: _,
-        } => false,
-        Phase::Ended => false,
-        Phase::Misfit => true,
-    }
-}
-
-fn is_ended(phase: Phase) -> bool
-    ensures { result ≡ is_ended phase }
-{
-    match phase {
-        Phase::Before => false,
-        Phase::Heading => false,
-        Phase::Cover {
-            width: _,
-            ending: _,
-        } => false,
-        Phase::Ended => true,
-        Phase::Misfit => false,
+        Phase::Ended => None,
     }
 }
 
@@ -355,20 +318,20 @@ pub fn fault(text: &[u8], starts: &[u16], lines: &[u16], n: usize, last: u32) ->
     let mut k = 0;
     while k < n {
         let rest = line_rest(lines, k, n);
-        phase = fit(text, starts, phase, k, rest);
-        if is_misfit(phase) {
+        let Some(next) = fit(text, starts, phase, k, rest) else {
             return Err(Refusal {
                 cause: Cause::TextLine,
                 place: names::line(lines, k),
             });
-        }
+        };
+        phase = next;
         k += rest + 1;
     }
-    if is_ended(phase) {
-        return Ok(());
+    match phase {
+        Phase::Ended => Ok(()),
+        _ => Err(Refusal {
+            cause: Cause::TextLine,
+            place: last,
+        }),
     }
-    Err(Refusal {
-        cause: Cause::TextLine,
-        place: last,
-    })
 }

@@ -6,7 +6,7 @@ use native.Mathlib.Nat.{sub-zero}
 use lib.ListN.{get_or}
 use Rattle.refusal.specs.Judgement.{refused}
 use Rattle.statements.proofs.Lines.{places-less, alike-short}
-use Rattle.statements.proofs.Faults.{fault-here, fault-later, fault-end}
+use Rattle.statements.proofs.Faults.{fault-here, fault-later, fault-end, not-ended}
 use borrow.Author.Rules.{rules}
 use Rattle.statements.proofs.fault.Goals as goal
 use Rattle.refusal.specs.declared.Cause.TheVariants.{TextLine}
@@ -17,8 +17,8 @@ loop-k-init c = (omega arith, rw sub-zero refl)
 pub line_rest-rest-requires : goal.line_rest-rest-requires
 line_rest-rest-requires c = (search rules, c.requires.1)
 
-pub fit-phase-requires : goal.fit-phase-requires
-fit-phase-requires c =
+pub fit-requires : goal.fit-requires
+fit-requires c =
     let l = c.loop-k in
     let a = c.args in
     let short : c.line_rest-rest.result ≤ a.n - (l.k + 1) = rw c.line_rest-rest.ensures (alike-short a.lines.now (get_or a.lines.now l.k 0) (l.k + 1) (a.n - (l.k + 1))) in
@@ -26,15 +26,6 @@ fit-phase-requires c =
 
 pub line-requires : goal.line-requires
 line-requires c = omega (arith, c.requires.1, c.loop-k-test.true)
-
-pub returns-then-is_misfit : goal.returns-then-is_misfit
-returns-then-is_misfit c =
-    let at-fit = c.fit-phase in
-    let at-line-rest = c.line_rest-rest in
-    let l = c.loop-k in
-    let a = c.args in
-    let short : at-line-rest.result ≤ a.n - (l.k + 1) = rw at-line-rest.ensures (alike-short a.lines.now (get_or a.lines.now l.k 0) (l.k + 1) (a.n - (l.k + 1))) in
-    ap (refused TextLine) c.line.ensures ∙ sym (fault-here a.text.now a.starts.now a.lines.now a.n a.last l.phase l.k at-line-rest.result (search rules) at-line-rest.ensures at-fit.result at-fit.ensures (sym c.is_misfit.ensures ∙ c.if-is_misfit.true)) ∙ l.invariant.1
 
 pub overflow_add-k : goal.overflow_add-k
 overflow_add-k c =
@@ -60,23 +51,34 @@ loop-k-smaller c =
     let short : at-line-rest.result ≤ a.n - (l.k + 1) = rw at-line-rest.ensures (alike-short a.lines.now (get_or a.lines.now l.k 0) (l.k + 1) (a.n - (l.k + 1))) in
     omega (arith, c.loop-k-test.true)
 
-pub loop-k-preserved : goal.loop-k-preserved
-loop-k-preserved c =
-    let at-fit = c.fit-phase in
+pub returns-in_default : goal.returns-in_default
+returns-in_default c =
     let at-line-rest = c.line_rest-rest in
     let l = c.loop-k in
     let a = c.args in
-    let short : at-line-rest.result ≤ a.n - (l.k + 1) = rw at-line-rest.ensures (alike-short a.lines.now (get_or a.lines.now l.k 0) (l.k + 1) (a.n - (l.k + 1))) in
-    (omega (arith, c.loop-k-test.true), sym (fault-later a.text.now a.starts.now a.lines.now a.n a.last l.phase l.k at-line-rest.result (search rules) at-line-rest.ensures at-fit.result at-fit.ensures (sym c.is_misfit.ensures ∙ c.if-is_misfit.false)) ∙ l.invariant.1)
+    ap (refused TextLine) c.line.ensures
+    ∙ sym (fault-here a.text.now a.starts.now a.lines.now a.n a.last l.phase l.k at-line-rest.result (search rules) at-line-rest.ensures (sym c.in_default.is ∙ c.fit.ensures))
+    ∙ l.invariant.1
 
-pub returns-then-is_ended : goal.returns-then-is_ended
-returns-then-is_ended c =
+pub loop-k-preserved : goal.loop-k-preserved
+loop-k-preserved c =
+    let at-line-rest = c.line_rest-rest in
     let l = c.loop-k in
     let a = c.args in
-    sym (rw (sym c.is_ended.ensures ∙ c.if-is_ended.true) at (fault-end a.text.now a.starts.now a.lines.now a.n a.last l.phase l.k c.loop-k-test.false)) ∙ l.invariant.1
+    let short : at-line-rest.result ≤ a.n - (l.k + 1) = rw at-line-rest.ensures (alike-short a.lines.now (get_or a.lines.now l.k 0) (l.k + 1) (a.n - (l.k + 1))) in (
+      omega (arith, c.loop-k-test.true),
+      sym (fault-later a.text.now a.starts.now a.lines.now a.n a.last l.phase l.k at-line-rest.result (search rules) at-line-rest.ensures c.in-Some.next (sym c.in-Some.is ∙ c.fit.ensures))
+          ∙ l.invariant.1,
+    )
 
-pub returns : goal.returns
-returns c =
+pub returns-in-Ended : goal.returns-in-Ended
+returns-in-Ended c =
     let l = c.loop-k in
     let a = c.args in
-    sym (rw (sym c.is_ended.ensures ∙ c.if-is_ended.false) at (fault-end a.text.now a.starts.now a.lines.now a.n a.last l.phase l.k c.loop-k-test.false)) ∙ l.invariant.1
+    sym (rw c.in-Ended.is at (fault-end a.text.now a.starts.now a.lines.now a.n a.last l.phase l.k c.loop-k-test.false)) ∙ rw c.in-Ended.is at l.invariant.1
+
+pub returns-in_default-phase : goal.returns-in_default-phase
+returns-in_default-phase c =
+    let l = c.loop-k in
+    let a = c.args in
+    sym (rw (not-ended l.phase c.in_default-phase.not-Ended) at (fault-end a.text.now a.starts.now a.lines.now a.n a.last l.phase l.k c.loop-k-test.false)) ∙ l.invariant.1

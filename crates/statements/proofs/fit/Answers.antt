@@ -41,6 +41,3 @@ returns-in-Cover c =
 
 pub returns-in-Ended : goal.returns-in-Ended
 returns-in-Ended c = rw (c.in-Ended.is, add-one) refl
-
-pub returns-in-Misfit : goal.returns-in-Misfit
-returns-in-Misfit c = rw (c.in-Misfit.is, add-one) refl
