@@ -219,9 +219,5 @@ pub fn store(words: &mut [u32], base: usize, values: &[u32])
     requires { base + length values.now ≤ length words.old }
     ensures { words.new ≡ sets words.old base values.now }
 {
-    let mut i = 0;
-    while i < values.len() {
-        words[base + i] = values[i];
-        i += 1;
-    }
+    words[base..base + values.len()].copy_from_slice(values);
 }

@@ -22,19 +22,13 @@ pub fn shown_parts(units: u32) -> u64
     rounding::rounded(2 * units as u64 * PARTS, HALF_UNITS)
 }
 
-fn apart(a: u64, b: u64) -> u64
-    ensures { result ≡ gap a b }
-{
-    if a < b { b - a } else { a - b }
-}
-
 // The error in parts of what is shown of an average, where the figures that it is made of have this error in half units: its own is one more.
 pub fn shown_error(average: u32, error: u32) -> u64
     ensures { result ≡ shown_error units_in_one parts_in_one average (error + 1) }
 {
     let shown = shown_parts(average) * HALF_UNITS;
     let exact = 2 * average as u64 * PARTS;
-    let far = apart(shown, exact) + (error as u64 + 1) * PARTS;
+    let far = shown.abs_diff(exact) + (error as u64 + 1) * PARTS;
     (far + (HALF_UNITS - 1)) / HALF_UNITS
 }
 
@@ -44,9 +38,7 @@ pub fn spell(number: u64) -> [u8; DECIMALS]
 {
     let mut text = [b'0'; DECIMALS];
     let mut rest = number;
-    let mut i = DECIMALS;
-    while 0 < i {
-        i -= 1;
+    for i in (0..DECIMALS).rev() {
         text[i] = b'0' + (rest % 10) as u8;
         rest /= 10;
     }

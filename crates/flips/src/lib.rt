@@ -14,33 +14,11 @@ const TO_LEADING_ONE: u64 = 0x20_0000;
 // The f64 1: exponent 1023, no digit.
 const BITS_OF_ONE: u64 = 0x3ff0_0000_0000_0000;
 
-fn low(x: u64) -> u8
-    ensures { result ≡ x % 256 }
-{
-    (x % 256) as u8
-}
-
 // The eight bytes of a field that is given as one number.
 pub fn field_bytes(bits: u64) -> [u8; 8]
     ensures { result ≡ field_bytes bits }
 {
-    let b1 = bits / 256;
-    let b2 = b1 / 256;
-    let b3 = b2 / 256;
-    let b4 = b3 / 256;
-    let b5 = b4 / 256;
-    let b6 = b5 / 256;
-    let b7 = b6 / 256;
-    [
-        low(bits),
-        low(b1),
-        low(b2),
-        low(b3),
-        low(b4),
-        low(b5),
-        low(b6),
-        low(b7),
-    ]
+    bits.to_le_bytes()
 }
 
 // The bits of the f64 that is units / U: whole numbers alone, so that no rounding mode matters. Shifted up, the highest bit of the units is the leading one

@@ -9,7 +9,7 @@ ghost use Rattle.area.specs.Rules.{NetSound};
 ghost use Rattle.signals.specs.Signals.{lane, pin_lanes};
 ghost use Rattle.rows.specs.Rows.{row_length, row_words, EachEntry, RowStored};
 ghost use Rattle.folds.specs.Gates.{RowsReady, RightHere, failure_from};
-ghost use Rattle.folds.specs.Failing.{wrong_in, InvertedAt, InputsBelow, FailingEnd, RightFor, sensitive_failure, last_in};
+ghost use Rattle.folds.specs.Failing.{wrong_in, InvertedAt, InputsBelow, FailingEnd, RightFor, last_in};
 
 // The lowest pin of a gate that may fail, which is to say reads no input; the pin count where there is none.
 fn lowest_failing(area: &[u32], gate: usize) -> usize
@@ -18,12 +18,10 @@ fn lowest_failing(area: &[u32], gate: usize) -> usize
 {
     let inputs = area::inputs(area);
     let count = area::pin_count(area, gate);
-    let mut i = 0;
-    while i < count {
+    for i in 0..count {
         if inputs <= area::pin(area, gate, i) {
             return i;
         }
-        i += 1;
     }
     count
 }
@@ -34,12 +32,11 @@ fn failing_end(area: &[u32], gate: usize) -> usize
     ensures { FailingEnd area.now gate result }
 {
     let inputs = area::inputs(area);
-    let mut end = area::pin_count(area, gate);
-    while 0 < end {
-        if inputs <= area::pin(area, gate, end - 1) {
-            return end;
+    let count = area::pin_count(area, gate);
+    for last in (0..count).rev() {
+        if inputs <= area::pin(area, gate, last) {
+            return last + 1;
         }
-        end -= 1;
     }
     0
 }
@@ -69,7 +66,33 @@ fn wrong_lanes(
     (((signals::gate_answer(area, gate, pins) ^ right) >> shift) % 4_294_967_296) as u32
 }
 
-// The last value of the fold in each lane over the pins up to this one, the lowest that may fail: its fold is exact.
+// The last value of the fold in each lane over the pins up to this one, the lowest that may fail: its fold is exact. `wrong` has the lanes in which the answer
+// is wrong with these pin words, none where they are the right ones.
+fn first_values(
+    rows: &[u32; rows::ROW_WORDS],
+    area: &[u32],
+    gate: usize,
+    right: u64,
+    shift: usize,
+    pins: [u64; area::MOST_PINS],
+    number: usize,
+    wrong: u32,
+) -> rows::Row
+    requires rows_ready { RowsReady area.now rows.now gate × (shift ≤ 32) }
+    requires inputs_below { InputsBelow area.now gate number × (number < layout.pin_count area.now gate) }
+    requires wrong_here { (l : ℕ) → l < row_length → lane l wrong ≡ wrong_in area.now gate right (shift + l)
+        (pin_lanes (shift + l) (layout.pin_count area.now gate) pins) }
+    ensures { EachEntry result (last_in area.now rows.now gate right shift pins (suc number)) }
+{
+    let turned = inverted(pins, number);
+    rows::first_row(
+        wrong,
+        wrong_lanes(area, gate, right, shift, turned),
+        rows::load_row(rows, area::pin(area, gate, number)),
+    )
+}
+
+// The same with any pin words.
 fn last_lowest(
     rows: &[u32; rows::ROW_WORDS],
     area: &[u32],
@@ -78,20 +101,18 @@ fn last_lowest(
     shift: usize,
     pins: [u64; area::MOST_PINS],
     number: usize,
-) -> [u32; rows::LANES]
+) -> rows::Row
     requires rows_ready { RowsReady area.now rows.now gate × (shift ≤ 32) }
     requires inputs_below { InputsBelow area.now gate number × (number < layout.pin_count area.now gate) }
     ensures { EachEntry result (last_in area.now rows.now gate right shift pins (suc number)) }
 {
-    let wrong = inverted(pins, number);
-    rows::first_row(
-        wrong_lanes(area, gate, right, shift, pins),
-        wrong_lanes(area, gate, right, shift, wrong),
-        rows::load_row(rows, area::pin(area, gate, number)),
-    )
+    let wrong = wrong_lanes(area, gate, right, shift, pins);
+    first_values(rows, area, gate, right, shift, pins, number, wrong)
 }
 
-// The last values over the first two, three and four pins. A pin that reads an input drops out.
+// The last values over the first two, three and four pins. A pin that reads an input drops out. Three functions, since average takes 1.13 to 1.27 times as long
+// with one over the count, up to 1.15 times where it fills a row that is lent and up to 1.14 times by closures; one with the pin as a const parameter would
+// call itself with another, which the check does not cover. What they all take stays apart: as a struct with references it takes up to 1.15 times as long.
 fn last_two(
     rows: &[u32; rows::ROW_WORDS],
     area: &[u32],
@@ -100,7 +121,7 @@ fn last_two(
     shift: usize,
     pins: [u64; area::MOST_PINS],
     lowest: usize,
-) -> [u32; rows::LANES]
+) -> rows::Row
     requires rows_ready { RowsReady area.now rows.now gate × (shift ≤ 32) }
     requires inputs_below { InputsBelow area.now gate lowest × (lowest < 2) × (2 ≤ layout.pin_count area.now gate) }
     ensures { EachEntry result (last_in area.now rows.now gate right shift pins 2) }
@@ -128,7 +149,7 @@ fn last_three(
     shift: usize,
     pins: [u64; area::MOST_PINS],
     lowest: usize,
-) -> [u32; rows::LANES]
+) -> rows::Row
     requires rows_ready { RowsReady area.now rows.now gate × (shift ≤ 32) }
     requires inputs_below { InputsBelow area.now gate lowest × (lowest < 3) × (3 ≤ layout.pin_count area.now gate) }
     ensures { EachEntry result (last_in area.now rows.now gate right shift pins 3) }
@@ -156,7 +177,7 @@ fn last_four(
     shift: usize,
     pins: [u64; area::MOST_PINS],
     lowest: usize,
-) -> [u32; rows::LANES]
+) -> rows::Row
     requires rows_ready { RowsReady area.now rows.now gate × (shift ≤ 32) }
     requires inputs_below { InputsBelow area.now gate lowest × (lowest < 4) × (4 ≤ layout.pin_count area.now gate) }
     ensures { EachEntry result (last_in area.now rows.now gate right shift pins 4) }
@@ -176,28 +197,6 @@ fn last_four(
     )
 }
 
-// The last values where one pin alone may fail and the others are right: its failure where it is sensitive.
-fn last_single(
-    rows: &[u32; rows::ROW_WORDS],
-    area: &[u32],
-    gate: usize,
-    right: u64,
-    shift: usize,
-    pins: [u64; area::MOST_PINS],
-    number: usize,
-) -> [u32; rows::LANES]
-    requires rows_ready { RowsReady area.now rows.now gate × (shift ≤ 32) }
-    requires number_bound { (number < layout.pin_count area.now gate) × RightFor area.now gate right shift pins }
-    ensures { EachEntry result (sensitive_failure area.now rows.now gate shift pins number) }
-{
-    let wrong = inverted(pins, number);
-    rows::first_row(
-        0,
-        wrong_lanes(area, gate, right, shift, wrong),
-        rows::load_row(rows, area::pin(area, gate, number)),
-    )
-}
-
 // The last values over the pins before `end`, where pin end - 1 is the highest that may fail and the pin words are right.
 fn last_values(
     rows: &[u32; rows::ROW_WORDS],
@@ -208,14 +207,14 @@ fn last_values(
     pins: [u64; area::MOST_PINS],
     lowest: usize,
     end: usize,
-) -> [u32; rows::LANES]
+) -> rows::Row
     requires rows_ready { RowsReady area.now rows.now gate × (shift ≤ 32) }
     requires inputs_below { InputsBelow area.now gate lowest × (lowest < end) × (end ≤ layout.pin_count area.now gate) }
     requires right_for { RightFor area.now gate right shift pins }
     ensures { EachEntry result (last_in area.now rows.now gate right shift pins end) }
 {
     if lowest + 1 == end {
-        return last_single(rows, area, gate, right, shift, pins, lowest);
+        return first_values(rows, area, gate, right, shift, pins, lowest, 0);
     }
     match end {
         2 => last_two(rows, area, gate, right, shift, pins, lowest),
@@ -231,7 +230,7 @@ fn failures(
     area: &[u32],
     gate: usize,
     shift: usize,
-) -> [u32; rows::LANES]
+) -> rows::Row
     requires rows_ready { RowsReady area.now rows.now gate × (shift ≤ 32) × (layout.flip area.now gate ≤ units_in_one) }
     requires right_here { RightHere area.now words.now shift gate }
     ensures { EachEntry result (failure_from area.now words.now rows.now shift gate) }

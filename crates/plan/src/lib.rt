@@ -38,22 +38,12 @@ pub fn next_live(area: &[u32]) -> [usize; area::MOST_SOURCES]
 {
     let readers = live::count_readers(area);
     let inputs = area::inputs(area);
-    let mut gate = area::gates(area);
-    let mut next = [gate; area::MOST_SOURCES];
-    while 0 < gate {
-        gate -= 1;
+    let count = area::gates(area);
+    let mut next = [count; area::MOST_SOURCES];
+    for gate in (0..count).rev() {
         next[gate] = next_from(&next, &readers, inputs + gate, gate);
     }
     next
-}
-
-fn smaller(x: usize, y: usize) -> usize
-    ensures { (result ≤ x) × (result ≤ y) }
-{
-    if x < y {
-        return x;
-    }
-    y
 }
 
 // How many of the lowest bits of a row's number an input does not see; the gates' entries have all of them as yet.
@@ -62,10 +52,8 @@ fn input_bits(inputs: usize) -> [usize; area::MOST_SOURCES]
     ensures { InputBits result inputs }
 {
     let mut unseen = [ROW_BITS; area::MOST_SOURCES];
-    let mut input = ROW_INPUTS;
-    while input < inputs {
+    for input in ROW_INPUTS..inputs {
         unseen[input] = input - ROW_INPUTS;
-        input += 1;
     }
     unseen
 }
@@ -78,10 +66,8 @@ fn gate_bits(unseen: &[usize; area::MOST_SOURCES], area: &[u32], gate: usize) ->
 {
     let count = area::pin_count(area, gate);
     let mut bits = ROW_BITS;
-    let mut i = 0;
-    while i < count {
-        bits = smaller(bits, unseen[area::pin(area, gate, i)]);
-        i += 1;
+    for i in 0..count {
+        bits = bits.min(unseen[area::pin(area, gate, i)]);
     }
     bits
 }
@@ -94,10 +80,8 @@ pub fn unseen_bits(area: &[u32]) -> [usize; area::MOST_SOURCES]
     let inputs = area::inputs(area);
     let count = area::gates(area);
     let mut unseen = input_bits(inputs);
-    let mut gate = 0;
-    while gate < count {
+    for gate in 0..count {
         unseen[inputs + gate] = gate_bits(&unseen, area, gate);
-        gate += 1;
     }
     unseen
 }

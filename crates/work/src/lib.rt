@@ -49,8 +49,7 @@ fn split_pins(area: &[u32], gate: usize) -> Pins
     let mut words = [0u32; area::MOST_PINS];
     let mut bits = [0u32; area::MOST_PINS];
     let mut bit = 1;
-    let mut i = 0;
-    while i < count {
+    for i in 0..count {
         let word = source_word(area, area::pin(area, gate, i));
         if word < 2 {
             start += word % 2 * bit;
@@ -60,13 +59,12 @@ fn split_pins(area: &[u32], gate: usize) -> Pins
             kept += 1;
         }
         bit *= 2;
-        i += 1;
     }
     Pins {
-        start: start,
-        kept: kept,
-        words: words,
-        bits: bits,
+        start,
+        kept,
+        words,
+        bits,
     }
 }
 
@@ -77,14 +75,12 @@ fn gate_figure(area: &[u32], gate: usize) -> u32
     ensures { result ≡ gate_figure area.now gate }
 {
     let pins = split_pins(area, gate);
-    let words = pins.words;
-    let bits = pins.bits;
     figure::pins_word(
         area::table(area, gate),
         pins.start,
         pins.kept,
-        words,
-        bits,
+        pins.words,
+        pins.bits,
         area::flip(area, gate),
     )
 }
@@ -105,10 +101,8 @@ fn work_gates(area: &mut [u32])
     ensures { area.new ≡ work_gates area.old 0 (gates area.old) }
 {
     let count = area::gates(area);
-    let mut gate = 0;
-    while gate < count {
+    for gate in 0..count {
         work_gate(area, gate);
-        gate += 1;
     }
 }
 
@@ -120,11 +114,9 @@ pub fn output_product(area: &[u32], product: u32) -> u32
     let start = area::outputs_index(area::gates(area));
     let count = area::outputs(area);
     let mut reliability = product;
-    let mut k = 0;
-    while k < count {
+    for k in 0..count {
         let word = source_word(area, area::index(area[start + k]));
         reliability = figure::output_step(reliability, word / 2);
-        k += 1;
     }
     reliability
 }
@@ -161,12 +153,10 @@ fn reads_marked(area: &[u32], marks: &[u8; area::MOST_SOURCES], gate: usize) -> 
     ensures { result ≡ reads_marked marks.now (used_pins area.now gate) }
 {
     let count = area::pin_count(area, gate);
-    let mut i = 0;
-    while i < count {
+    for i in 0..count {
         if marks[area::pin(area, gate, i)] == 1 {
             return true;
         }
-        i += 1;
     }
     false
 }
@@ -180,13 +170,11 @@ fn work_marked(area: &mut [u32], marks: [u8; area::MOST_SOURCES], from: usize)
     let n = area::inputs(area);
     let count = area::gates(area);
     let mut marks = marks;
-    let mut gate = from;
-    while gate < count {
+    for gate in from..count {
         if reads_marked(area, &marks, gate) {
             work_gate(area, gate);
             marks[n + gate] = 1;
         }
-        gate += 1;
     }
 }
 

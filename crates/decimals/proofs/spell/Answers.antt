@@ -11,9 +11,6 @@ loop-i-init c = start c.args.number _ refl
 pub bounds-text-i : goal.bounds-text-i
 bounds-text-i c = omega (arith, c.loop-i.invariant.few)
 
-pub loop-i-smaller : goal.loop-i-smaller
-loop-i-smaller c = omega arith
-
 pub loop-i-preserved : goal.loop-i-preserved
 loop-i-preserved c =
     let l = c.loop-i in

@@ -1,24 +1,22 @@
 -- `folds::last_values` meets its contract. Assumes nothing.
-use Prim.Native.Nat.{◌<◌}
-use mathlib.Core.Path.{◌≡◌, ◌∙◌}
+use mathlib.Core.Path.{◌≡◌}
 use native.Mathlib.Numerals.{add-one}
 use native.Mathlib.Omega.{arith}
-use Rattle.area.specs.Layout.{most_pins, pin_count}
-use Rattle.folds.proofs.Last.{single-last}
+use Rattle.area.specs.Layout.{most_pins}
+use Rattle.folds.proofs.Last.{none-wrong}
 use Rattle.folds.proofs.last_values.Goals as goal
 
-pub last_single-requires : goal.last_single-requires
-last_single-requires c = record { rows_ready = c.requires.rows_ready; number_bound = (omega (arith, c.requires.inputs_below.1, c.requires.inputs_below.2), c.requires.right_for) }
+pub first_values-requires : goal.first_values-requires
+first_values-requires c =
+    let a = c.args in
+    record {
+      rows_ready = c.requires.rows_ready;
+      inputs_below = (c.requires.inputs_below.0, omega (arith, c.requires.inputs_below.1, c.requires.inputs_below.2));
+      wrong_here = none-wrong a.area.now a.rows.now a.gate c.requires.rows_ready.0 a.right a.shift c.requires.rows_ready.1 a.pins c.requires.right_for;
+    }
 
 pub returns-then-lowest-end : goal.returns-then-lowest-end
-returns-then-lowest-end c =
-    let a = c.args in
-    let used : a.lowest < pin_count a.area.now a.gate = omega (arith, c.requires.inputs_below.1, c.requires.inputs_below.2) in
-    rw (← c.if-lowest-end.true, add-one a.lowest)
-    (λ l less.
-    c.last_single.ensures l less
-    ∙ single-last a.area.now a.rows.now a.gate c.requires.rows_ready.0 a.right a.shift c.requires.rows_ready.1 a.pins c.requires.right_for a.lowest l less used
-    c.requires.inputs_below.0)
+returns-then-lowest-end c = rw (← c.if-lowest-end.true, add-one c.args.lowest) c.first_values.ensures
 
 pub last_four-requires : goal.last_four-requires
 last_four-requires c =

@@ -15,7 +15,7 @@ pin_count-count-requires c =
     gate-inside _ c.requires.0 _ c.requires.1
 
 pub loop-i-init : goal.loop-i-init
-loop-i-init c = (omega arith, below_none _)
+loop-i-init c = below_none _
 
 pub pin-requires : goal.pin-requires
 pin-requires c =
@@ -25,7 +25,7 @@ pin-requires c =
 pub returns-then-inputs-pin : goal.returns-then-inputs-pin
 returns-then-inputs-pin c =
     let at-loop = c.loop-i in
-    at-loop.invariant.1
+    at-loop.invariant
 
 pub loop-i-preserved : goal.loop-i-preserved
 loop-i-preserved c =
@@ -33,10 +33,9 @@ loop-i-preserved c =
     let at-inputs = c.inputs-inputs in
     let a = c.args in
     let l = at-loop in (
-      omega arith,
-      below_more (λ (i : ℕ). pin a.area.now a.gate i < inputs a.area.now) l.i l.invariant.1
-          (omega (arith, c.pin.ensures, at-inputs.ensures)),
+    below_more (λ (i : ℕ). pin a.area.now a.gate i < inputs a.area.now) l.i l.invariant
+    (omega (arith, c.pin.ensures, at-inputs.ensures))
     )
 
 pub returns : goal.returns
-returns c i less = c.loop-i.invariant.1 i (omega arith)
+returns c i less = c.loop-i.invariant i (omega arith)

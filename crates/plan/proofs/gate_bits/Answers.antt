@@ -9,7 +9,7 @@ use Rattle.plan.proofs.gate_bits.Goals.{After-pin, In-loop-i}
 use Rattle.plan.proofs.gate_bits.Goals as goal
 
 pub loop-i-init : goal.loop-i-init
-loop-i-init c = (omega arith, omega arith, λ k none. absurd (omega arith))
+loop-i-init c = (omega arith, λ k none. absurd (omega arith))
 
 -- a turn's pin
 module _ (c : In-loop-i) where
@@ -38,15 +38,14 @@ pub loop-i-preserved : goal.loop-i-preserved
 loop-i-preserved c =
     let l = c.loop-i in
     let a = c.args in
-    let made = rw c.pin.ensures at c.smaller-bits.ensures in (
-      omega arith,
-      omega (arith, made.0, l.invariant.1),
-      below_more (λ (k : ℕ). c.smaller-bits.result ≤ get_or a.unseen.now (pin a.area.now a.gate k) 0) l.i
-          (λ k less. omega (arith, made.0, l.invariant.2 k less))
-          made.1,
+    let made = rw c.pin.ensures at c.min-bits.ensures in (
+      omega (arith, made, l.invariant.0),
+      below_more (λ (k : ℕ). c.min-bits.result ≤ get_or a.unseen.now (pin a.area.now a.gate k) 0) l.i
+          (λ k less. omega (arith, made, l.invariant.1 k less))
+          (omega (arith, made)),
     )
 
 pub returns : goal.returns
 returns c =
     let l = c.loop-i in
-    let at-pin-count = c.pin_count-count in record { upper_bound = l.invariant.1; by_index = λ i used. l.invariant.2 i (omega (arith, at-pin-count.ensures)) }
+    let at-pin-count = c.pin_count-count in record { upper_bound = l.invariant.0; by_index = λ i used. l.invariant.1 i (omega (arith, at-pin-count.ensures)) }

@@ -1,4 +1,4 @@
-use Prim.Native.Nat.{ℕ, ◌-◌, ◌≤◌, ◌<◌}
+use Prim.Native.Nat.{ℕ, ◌≤◌, ◌<◌}
 use lib.ListN.{get_or}
 use Rattle.area.specs.Layout.{pin}
 use Rattle.plan.specs.Plan.{row_bits}
@@ -6,7 +6,4 @@ use Rattle.plan.proofs.gate_bits.Given as goal
 
 abbrev pub invariant-loop-i : goal.invariant-loop-i
 invariant-loop-i l =
-    (l.i ≤ l.count) × (l.bits ≤ row_bits) × ((k : ℕ) → k < l.i → l.bits ≤ get_or l.unseen (pin l.area l.gate k) 0)
-
-abbrev pub decreases-loop-i : goal.decreases-loop-i
-decreases-loop-i l = l.count - l.i
+    (l.bits ≤ row_bits) × ((k : ℕ) → k < l.i → l.bits ≤ get_or l.unseen (pin l.area l.gate k) 0)

@@ -13,13 +13,13 @@ pub inputs-inputs-requires : goal.inputs-inputs-requires
 inputs-inputs-requires c =
     omega (arith, c.requires.long)
 
-pub gates-gate-requires : goal.gates-gate-requires
-gates-gate-requires c =
+pub gates-count-requires : goal.gates-count-requires
+gates-count-requires c =
     omega (arith, c.requires.long)
 
 pub loop-gate-init : goal.loop-gate-init
 loop-gate-init c =
-    rw c.gates-gate.ensures (le_refl (gates c.args.area.now), next-none c.args.area.now (omega (arith, c.requires.gates_fit)))
+    rw c.gates-count.ensures (le_refl (gates c.args.area.now), next-none c.args.area.now (omega (arith, c.requires.gates_fit)))
 
 -- the gate before the one reached
 module _ (c : In-loop-gate) where

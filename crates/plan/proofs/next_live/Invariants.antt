@@ -5,6 +5,3 @@ use Rattle.plan.proofs.next_live.Given as goal
 
 abbrev pub invariant-loop-gate : goal.invariant-loop-gate
 invariant-loop-gate l = (l.gate ≤ gates l.area) × NextLive l.area l.next l.gate
-
-abbrev pub decreases-loop-gate : goal.decreases-loop-gate
-decreases-loop-gate l = l.gate

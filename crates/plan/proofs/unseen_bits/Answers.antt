@@ -22,9 +22,8 @@ input_bits-unseen-requires c =
 
 pub loop-gate-init : goal.loop-gate-init
 loop-gate-init c = (
-  omega arith,
-  record { bits = rw c.inputs-inputs.ensures at c.input_bits-unseen.ensures; gate = λ j i none used. absurd (omega arith) },
-)
+    record { bits = rw c.inputs-inputs.ensures at c.input_bits-unseen.ensures; gate = λ j i none used. absurd (omega arith) }
+    )
 
 -- a turn's gate
 module _ (c : In-loop-gate) where
@@ -48,17 +47,17 @@ offset_bounds-unseen-inputs c = omega (arith, room (goal.at.offset_bounds-unseen
 
 pub bounds-unseen-inputs : goal.bounds-unseen-inputs
 bounds-unseen-inputs c =
-    omega (arith, room (goal.at.bounds-unseen-inputs c).In-loop-gate, c.loop-gate.invariant.1.bits.long)
+    omega (arith, room (goal.at.bounds-unseen-inputs c).In-loop-gate, c.loop-gate.invariant.bits.long)
 
 pub loop-gate-preserved : goal.loop-gate-preserved
 loop-gate-preserved c =
     let l = c.loop-gate in
     let made = c.gate_bits.ensures in
-    (omega arith, rw (place (goal.at.loop-gate-preserved c).In-loop-gate) (gate-more c.args.area.now c.requires l.unseen l.gate _ (inside (goal.at.loop-gate-preserved c).In-loop-gate) l.invariant.1 made.upper_bound made.by_index))
+    (rw (place (goal.at.loop-gate-preserved c).In-loop-gate) (gate-more c.args.area.now c.requires l.unseen l.gate _ (inside (goal.at.loop-gate-preserved c).In-loop-gate) l.invariant made.upper_bound made.by_index))
 
 pub returns : goal.returns
 returns c =
     let l = c.loop-gate in
     let at-gates = c.gates-count in
     let end : l.gate ≡ gates c.args.area.now = omega (arith, at-gates.ensures) in
-    rw end at l.invariant.1
+    rw end at l.invariant

@@ -1,24 +1,6 @@
--- `rows::fold_row` meets its contract: each turn makes one entry. Assumes nothing.
-use mathlib.Core.Path.{refl}
-use native.Mathlib.Omega.{arith}
-use borrow.Author.Count.{below_none}
-use Rattle.rows.specs.Rows.{row_length}
-use Rattle.rows.proofs.Fill.{fill-turn}
+-- `rows::fold_row` meets its contract: each entry is what the call for its lane gave. Assumes nothing.
+use borrow.Author.Rules.{rules}
 use Rattle.rows.proofs.fold_row.Goals as goal
 
-pub loop-l-init : goal.loop-l-init
-loop-l-init c = (omega arith, refl, below_none _)
-
-pub blended-requires : goal.blended-requires
-blended-requires c =
-    let l = c.loop-l.l in
-    let less = c.loop-l-test.true in
-    (c.requires.0 l less, c.requires.1 l less, c.requires.2 l less)
-
-pub loop-l-preserved : goal.loop-l-preserved
-loop-l-preserved c =
-    let l = c.loop-l in
-    fill-turn row_length _ l.row l.l _ l.invariant (omega arith) c.blended.ensures
-
 pub returns : goal.returns
-returns c l less = c.loop-l.invariant.2 l (omega arith)
+returns c l less = search (rules, c.row_of.ensures l less)

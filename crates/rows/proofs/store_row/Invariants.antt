@@ -1,4 +1,4 @@
-use Prim.Native.Nat.{ℕ, ◌+◌, ◌-◌, ◌*◌, ◌≤◌, ◌<◌}
+use Prim.Native.Nat.{ℕ, ◌+◌, ◌*◌, ◌<◌}
 use mathlib.Core.Logic.{◌≢◌}
 use mathlib.Core.Path.{◌≡◌}
 use lib.ListN.{length, get_or}
@@ -7,8 +7,5 @@ use Rattle.rows.proofs.store_row.Given as goal
 
 abbrev pub invariant-loop-l : goal.invariant-loop-l
 invariant-loop-l l =
-    (l.l ≤ row_length) × (length l.rows ≡ row_words) × ((i : ℕ) → i < l.l → get_or l.rows (row_length * l.source + i) 0 ≡ get_or l.row i 0)
+    (length l.rows ≡ row_words) × ((i : ℕ) → i < l.l → get_or l.rows (row_length * l.source + i) 0 ≡ get_or l.row i 0)
     × ((t i : ℕ) → t ≢ l.source → i < row_length → get_or l.rows (row_length * t + i) 0 ≡ get_or l.initial.rows (row_length * t + i) 0)
-
-abbrev pub decreases-loop-l : goal.decreases-loop-l
-decreases-loop-l l = row_length - l.l

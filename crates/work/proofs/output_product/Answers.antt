@@ -16,7 +16,7 @@ use Rattle.work.proofs.output_product.Goals.{After-index, After-source_word-word
 use Rattle.work.proofs.output_product.Goals as goal
 
 pub loop-k-init : goal.loop-k-init
-loop-k-init c = (omega arith, c.requires.1, refl)
+loop-k-init c = (c.requires.1, refl)
 
 -- a turn's output
 module _ (c : In-loop-k) where
@@ -61,20 +61,19 @@ pub source_word-word-requires : goal.source_word-word-requires
 source_word-word-requires c = record { workable = c.requires.0; source_bound = read c }
 
 pub output_step-reliability-requires : goal.output_step-reliability-requires
-output_step-reliability-requires c = (c.loop-k.invariant.1, fits c)
+output_step-reliability-requires c = (c.loop-k.invariant.0, fits c)
 
 pub loop-k-preserved : goal.loop-k-preserved
 loop-k-preserved c =
     let turn = (goal.at.loop-k-preserved c).In-loop-k in
     let l = c.loop-k in (
-      omega arith,
       rw c.output_step-reliability.ensures
-          (output-at-most units_in_one (omega arith) l.reliability (c.source_word-word.result / 2) l.invariant.1 (fits (goal.at.loop-k-preserved c).After-source_word-word)),
+          (output-at-most units_in_one (omega arith) l.reliability (c.source_word-word.result / 2) l.invariant.0 (fits (goal.at.loop-k-preserved c).After-source_word-word)),
       product-turn (source_word (ws turn)) (output_words (ws turn)) l.k l.reliability c.output_step-reliability.result (inside turn)
           (c.output_step-reliability.ensures
           ∙ ap (λ (o : ℕ). output_step units_in_one l.reliability (o / 2))
           (c.source_word-word.ensures ∙ ap (source_word (ws turn)) (here (goal.at.loop-k-preserved c).After-index)))
-          l.invariant.2,
+          l.invariant.1,
     )
 
 pub returns : goal.returns
@@ -82,4 +81,4 @@ returns c =
     let l = c.loop-k in
     let os = output_words c.args.area.now in
     let past : length os ≤ l.k = omega (arith, output_count c.args.area.now c.requires.0.net, c.outputs-count.ensures) in
-    sym (ap (product_from (source_word c.args.area.now) l.reliability) (drop_of_length-le os past)) ∙ l.invariant.2
+    sym (ap (product_from (source_word c.args.area.now) l.reliability) (drop_of_length-le os past)) ∙ l.invariant.1

@@ -1,4 +1,4 @@
-use Prim.Native.Nat.{◌-◌, ◌≤◌}
+use Prim.Native.Nat.{◌≤◌}
 use mathlib.Core.Path.{◌≡◌}
 use lib.ListN.{drop}
 use Rattle.rounding.specs.Rounding.{units_in_one}
@@ -8,8 +8,5 @@ use Rattle.work.proofs.output_product.Given as goal
 
 abbrev pub invariant-loop-k : goal.invariant-loop-k
 invariant-loop-k l =
-    (l.k ≤ l.count) × (l.reliability ≤ units_in_one)
+    (l.reliability ≤ units_in_one)
     × (product_from (source_word l.area) l.reliability (drop l.k (output_words l.area)) ≡ product_from (source_word l.area) l.product (output_words l.area))
-
-abbrev pub decreases-loop-k : goal.decreases-loop-k
-decreases-loop-k l = l.count - l.k

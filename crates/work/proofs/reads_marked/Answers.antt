@@ -14,7 +14,7 @@ pub pin_count-count-requires : goal.pin_count-count-requires
 pin_count-count-requires c = gate-inside _ c.requires.workable.net _ c.requires.gate_bound
 
 pub loop-i-init : goal.loop-i-init
-loop-i-init c = (omega arith, refl)
+loop-i-init c = refl
 
 -- a turn's pin: it is used, and it reads a source
 module _ (c : In-loop-i) where
@@ -49,11 +49,11 @@ bounds-marks-pin c =
 
 pub returns-then-marks-pin-eq1 : goal.returns-then-marks-pin-eq1
 returns-then-marks-pin-eq1 c =
-    sym (marked-here c.args.marks.now _ (i (goal.at.returns-then-marks-pin-eq1 c).In-loop-i) (inside (goal.at.returns-then-marks-pin-eq1 c).In-loop-i) (rw (here (goal.at.returns-then-marks-pin-eq1 c).After-pin) at c.if-marks-pin-eq1.true)) ∙ c.loop-i.invariant.1
+    sym (marked-here c.args.marks.now _ (i (goal.at.returns-then-marks-pin-eq1 c).In-loop-i) (inside (goal.at.returns-then-marks-pin-eq1 c).In-loop-i) (rw (here (goal.at.returns-then-marks-pin-eq1 c).After-pin) at c.if-marks-pin-eq1.true)) ∙ c.loop-i.invariant
 
 pub loop-i-preserved : goal.loop-i-preserved
 loop-i-preserved c =
-    (omega arith, not-marked-here c.args.marks.now _ (i (goal.at.loop-i-preserved c).In-loop-i) (inside (goal.at.loop-i-preserved c).In-loop-i) (rw (here (goal.at.loop-i-preserved c).After-pin) at c.if-marks-pin-eq1.false) ∙ c.loop-i.invariant.1)
+    (not-marked-here c.args.marks.now _ (i (goal.at.loop-i-preserved c).In-loop-i) (inside (goal.at.loop-i-preserved c).In-loop-i) (rw (here (goal.at.loop-i-preserved c).After-pin) at c.if-marks-pin-eq1.false) ∙ c.loop-i.invariant)
 
 pub returns : goal.returns
 returns c =
@@ -61,4 +61,4 @@ returns c =
     let ps = used_pins c.args.area.now c.args.gate in
     let past : length ps ≤ l.i
     = omega (arith, used-count c.args.area.now c.requires.workable.net c.args.gate c.requires.gate_bound, c.pin_count-count.ensures) in
-    sym (ap (reads_marked c.args.marks.now) (drop_of_length-le ps past)) ∙ l.invariant.1
+    sym (ap (reads_marked c.args.marks.now) (drop_of_length-le ps past)) ∙ l.invariant

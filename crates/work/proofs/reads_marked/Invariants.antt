@@ -1,4 +1,3 @@
-use Prim.Native.Nat.{◌-◌, ◌≤◌}
 use mathlib.Core.Path.{◌≡◌}
 use lib.ListN.{drop}
 use Rattle.area.specs.Layout.{used_pins}
@@ -7,7 +6,4 @@ use Rattle.work.proofs.reads_marked.Given as goal
 
 abbrev pub invariant-loop-i : goal.invariant-loop-i
 invariant-loop-i l =
-    (l.i ≤ l.count) × (reads_marked l.marks (drop l.i (used_pins l.area l.gate)) ≡ reads_marked l.marks (used_pins l.area l.gate))
-
-abbrev pub decreases-loop-i : goal.decreases-loop-i
-decreases-loop-i l = l.count - l.i
+    reads_marked l.marks (drop l.i (used_pins l.area l.gate)) ≡ reads_marked l.marks (used_pins l.area l.gate)

@@ -16,7 +16,7 @@ pin_count-count-requires c = gate-inside _ c.requires.workable.net _ c.requires.
 
 pub loop-i-init : goal.loop-i-init
 loop-i-init c =
-    (omega arith, kept-none refl refl, going-first c.requires.workable.net c.requires.gate_bound)
+    (kept-none refl refl, going-first c.requires.workable.net c.requires.gate_bound)
 
 -- a turn's pin is used
 module _ (c : In-loop-i) where
@@ -46,14 +46,14 @@ module _ (c : After-source_word-word) where
   read = c.source_word-word.ensures ∙ ap (source_word c.args.area.now) c.pin.ensures
 
   small : (c.loop-i.bit ≤ 15) × (c.loop-i.start ≤ 15)
-  small = going-small c.requires.workable.net c.requires.gate_bound c.loop-i.invariant.2 (used (record { before = c.before.before.before; type_inv = record { area = c.shared_slice_known-1.given } }))
+  small = going-small c.requires.workable.net c.requires.gate_bound c.loop-i.invariant.1 (used (record { before = c.before.before.before; type_inv = record { area = c.shared_slice_known-1.given } }))
 
   fits : word / 2 ≤ units_in_one
   fits = omega (arith, c.source_word-word.ensures, source-word-fits c.args.area.now c.requires.workable c.pin.result (below (record { before = c.before.before; type_inv = record { area = c.shared_slice_known-1.given } })))
 
   -- there is room for one more
   room : c.loop-i.kept < most_pins
-  room = omega (arith, few (record { before = c.before.before.before; type_inv = record { area = c.shared_slice_known-1.given } }), c.loop-i.invariant.1.few)
+  room = omega (arith, few (record { before = c.before.before.before; type_inv = record { area = c.shared_slice_known-1.given } }), c.loop-i.invariant.0.few)
 
 pub overflow_mul-start : goal.overflow_mul-start
 overflow_mul-start c = omega (arith, added (word (goal.at.overflow_mul-start c).After-source_word-word) c.loop-i.bit, (small (goal.at.overflow_mul-start c).After-source_word-word).0)
@@ -89,19 +89,17 @@ loop-i-preserved c =
     elim c.if-word-lt2.branch [
       | then-word-lt2 w ↦
           rw (w.start-is, w.kept-is, w.words-is, w.bits-is) (
-            omega arith,
-            kept_same l.invariant.1,
-            going-without c.requires.workable.net c.requires.gate_bound l.invariant.2 pin (word there) (read there) (omega (arith, w.if-word-lt2.true)),
+            kept_same l.invariant.0,
+            going-without c.requires.workable.net c.requires.gate_bound l.invariant.1 pin (word there) (read there) (omega (arith, w.if-word-lt2.true)),
           )
       | else-word-lt2 w ↦
           rw (w.start-is, w.kept-is, w.words-is, w.bits-is) (
-            omega arith,
-            kept_more l.invariant.1 (word there) l.bit (few (goal.at.loop-i-preserved c).In-loop-i) (fits there),
-            going-kept c.requires.workable.net c.requires.gate_bound l.invariant.2 pin l.invariant.1 (word there) (read there),
+            kept_more l.invariant.0 (word there) l.bit (few (goal.at.loop-i-preserved c).In-loop-i) (fits there),
+            going-kept c.requires.workable.net c.requires.gate_bound l.invariant.1 pin l.invariant.0 (word there) (read there),
           )
     ]
 
 pub returns : goal.returns
 returns c =
     let l = c.loop-i in
-    let count = c.pin_count-count.ensures in record { kept_le_most_pins = (omega (arith, l.invariant.1.few, count, (c.requires.workable.net.gate c.args.gate c.requires.gate_bound).few_pins), l.invariant.1.each); split = going-last c.requires.workable.net c.requires.gate_bound l.invariant.2 (omega (arith, count)) }
+    let count = c.pin_count-count.ensures in record { kept_le_most_pins = (omega (arith, l.invariant.0.few, count, (c.requires.workable.net.gate c.args.gate c.requires.gate_bound).few_pins), l.invariant.0.each); split = going-last c.requires.workable.net c.requires.gate_bound l.invariant.1 (omega (arith, count)) }

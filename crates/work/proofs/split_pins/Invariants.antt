@@ -1,4 +1,4 @@
-use Prim.Native.Nat.{◌-◌, ◌/◌, ◌≤◌}
+use Prim.Native.Nat.{◌/◌, ◌≤◌}
 use Rattle.area.specs.Layout.{source_word}
 use Rattle.area.proofs.EachPin.{KeptPins, Going}
 use Rattle.rounding.specs.Rounding.{units_in_one}
@@ -6,7 +6,4 @@ use Rattle.work.proofs.split_pins.Given as goal
 
 abbrev pub invariant-loop-i : goal.invariant-loop-i
 invariant-loop-i l =
-    (l.i ≤ l.count) × KeptPins (λ w. w / 2 ≤ units_in_one) l.kept l.words l.bits l.i × Going (source_word l.area) (λ w. w) l.area l.gate l.start l.kept l.words l.bits l.bit l.i
-
-abbrev pub decreases-loop-i : goal.decreases-loop-i
-decreases-loop-i l = l.count - l.i
+    KeptPins (λ w. w / 2 ≤ units_in_one) l.kept l.words l.bits l.i × Going (source_word l.area) (λ w. w) l.area l.gate l.start l.kept l.words l.bits l.bit l.i

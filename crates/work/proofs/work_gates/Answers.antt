@@ -13,30 +13,29 @@ pub loop-gate-init : goal.loop-gate-init
 loop-gate-init c =
     let e = c.gates-count.ensures in
     let count : c.gates-count.result - 0 ≡ gates c.args.area.now = omega (arith, e) in
-    (omega arith, sym e, c.requires, ap (work_gates c.args.area.now 0) count, refl)
+    (sym e, c.requires, ap (work_gates c.args.area.now 0) count, refl)
 
 pub work_gate-requires : goal.work_gate-requires
 work_gate-requires c =
-    let l = c.loop-gate in record { workable = l.invariant.2; gate_bound = omega (arith, l.invariant.1) }
+    let l = c.loop-gate in record { workable = l.invariant.1; gate_bound = omega (arith, l.invariant.0) }
 
 pub loop-gate-preserved : goal.loop-gate-preserved
 loop-gate-preserved c =
     let l = c.loop-gate in
     let e = c.work_gate.ensures in
-    let below : l.gate < gates l.area = omega (arith, l.invariant.1) in
+    let below : l.gate < gates l.area = omega (arith, l.invariant.0) in
     let same = same-work-gate l.area l.gate below in (
-      omega arith,
-      rw e (same_gates l.area _ same ∙ l.invariant.1),
-      rw e (workable-work-gate l.area l.invariant.2 l.gate below),
-      gates-turn l.area c.work_gate.new.area l.gate _ (omega arith) e l.invariant.3,
-      rw e same.size ∙ l.invariant.4,
+      rw e (same_gates l.area _ same ∙ l.invariant.0),
+      rw e (workable-work-gate l.area l.invariant.1 l.gate below),
+      gates-turn l.area c.work_gate.new.area l.gate _ (omega arith) e l.invariant.2,
+      rw e same.size ∙ l.invariant.3,
     )
 
 pub shape_of-area : goal.shape_of-area
-shape_of-area c = c.loop-gate.invariant.4
+shape_of-area c = c.loop-gate.invariant.3
 
 pub returns : goal.returns
 returns c =
     let l = c.loop-gate in
     let none : c.gates-count.result - l.gate ≡ 0 = omega arith in
-    sym (ap (work_gates l.area l.gate) none) ∙ l.invariant.3
+    sym (ap (work_gates l.area l.gate) none) ∙ l.invariant.2

@@ -1,4 +1,4 @@
-use Prim.Native.Nat.{◌-◌, ◌≤◌}
+use Prim.Native.Nat.{◌-◌}
 use mathlib.Core.Path.{◌≡◌}
 use lib.ListN.{length}
 use Rattle.area.specs.Layout.{gates}
@@ -8,8 +8,5 @@ use Rattle.work.proofs.work_gates.Given as goal
 
 abbrev pub invariant-loop-gate : goal.invariant-loop-gate
 invariant-loop-gate l =
-    (l.gate ≤ l.count) × (gates l.area ≡ l.count) × Workable l.area × (work_gates l.area l.gate (l.count - l.gate) ≡ work_gates l.initial.area 0 (gates l.initial.area))
+    (gates l.area ≡ l.count) × Workable l.area × (work_gates l.area l.gate (l.count - l.gate) ≡ work_gates l.initial.area 0 (gates l.initial.area))
     × (length l.area ≡ length l.initial.area)
-
-abbrev pub decreases-loop-gate : goal.decreases-loop-gate
-decreases-loop-gate l = l.count - l.gate

@@ -15,7 +15,6 @@ use Rattle.work.proofs.work_marked.Goals as goal
 pub loop-gate-init : goal.loop-gate-init
 loop-gate-init c =
     let e = c.gates-count.ensures in (
-      omega (arith, e, c.requires.from_bound),
       sym e,
       sym c.inputs-n.ensures,
       c.requires.workable,
@@ -26,7 +25,7 @@ loop-gate-init c =
 
 pub reads_marked-requires : goal.reads_marked-requires
 reads_marked-requires c =
-    let l = c.loop-gate in record { workable = l.invariant.3; gate_bound = omega (arith, l.invariant.1) }
+    let l = c.loop-gate in record { workable = l.invariant.2; gate_bound = omega (arith, l.invariant.0) }
 
 -- what a turn leaves: the gate worked out and marked where it reads a marked source
 module _ (c : Joined-reads_marked) where
@@ -45,7 +44,7 @@ module _ (c : Joined-reads_marked) where
               marked = true;
               reads = tested ∙ w.if-reads_marked.true;
               words = w.area-is ∙ w.work_gate.ensures;
-              marks = w.marks-is ∙ ap (λ (n : ℕ). set c.loop-gate.marks (n + c.loop-gate.gate) 1) (sym c.loop-gate.invariant.2);
+              marks = w.marks-is ∙ ap (λ (n : ℕ). set c.loop-gate.marks (n + c.loop-gate.gate) 1) (sym c.loop-gate.invariant.1);
             }
         | else-reads_marked w ↦ record { marked = false; reads = tested ∙ w.if-reads_marked.false; words = w.area-is; marks = w.marks-is }
       ]
@@ -54,19 +53,18 @@ pub loop-gate-preserved : goal.loop-gate-preserved
 loop-gate-preserved c =
     let a = c.loop-gate in
     let t = turned c in
-    let below : a.gate < gates a.area = omega (arith, a.invariant.1) in
+    let below : a.gate < gates a.area = omega (arith, a.invariant.0) in
     let same = same-work-if t.marked a.area a.gate below in (
-      omega arith,
-      rw t.words (same_gates a.area _ same ∙ a.invariant.1),
-      rw t.words (same_inputs a.area _ same ∙ a.invariant.2),
-      rw t.words (workable-work-if a.area a.invariant.3 t.marked a.gate below),
-      ap length t.words ∙ same.size ∙ a.invariant.4,
-      ap length t.marks ∙ mark-if-length t.marked a.marks (inputs a.area + a.gate) ∙ a.invariant.5,
-      marked_turn a.area c.if-reads_marked.area a.marks c.if-reads_marked.marks a.gate _ t.marked (omega arith) t.reads t.words t.marks a.invariant.6,
+      rw t.words (same_gates a.area _ same ∙ a.invariant.0),
+      rw t.words (same_inputs a.area _ same ∙ a.invariant.1),
+      rw t.words (workable-work-if a.area a.invariant.2 t.marked a.gate below),
+      ap length t.words ∙ same.size ∙ a.invariant.3,
+      ap length t.marks ∙ mark-if-length t.marked a.marks (inputs a.area + a.gate) ∙ a.invariant.4,
+      marked_turn a.area c.if-reads_marked.area a.marks c.if-reads_marked.marks a.gate _ t.marked (omega arith) t.reads t.words t.marks a.invariant.5,
     )
 
 pub returns : goal.returns
 returns c =
     let l = c.loop-gate in
     let none : c.gates-count.result - l.gate ≡ 0 = omega arith in
-    sym (ap (work_marked l.area l.marks l.gate) none) ∙ l.invariant.6
+    sym (ap (work_marked l.area l.marks l.gate) none) ∙ l.invariant.5

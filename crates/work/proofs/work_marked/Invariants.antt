@@ -1,4 +1,4 @@
-use Prim.Native.Nat.{◌-◌, ◌≤◌}
+use Prim.Native.Nat.{◌-◌}
 use mathlib.Core.Path.{◌≡◌}
 use lib.ListN.{length}
 use Rattle.area.specs.Layout.{most_sources, inputs, gates}
@@ -8,8 +8,5 @@ use Rattle.work.proofs.work_marked.Given as goal
 
 abbrev pub invariant-loop-gate : goal.invariant-loop-gate
 invariant-loop-gate l =
-    (l.gate ≤ l.count) × (gates l.area ≡ l.count) × (inputs l.area ≡ l.n) × Workable l.area × (length l.area ≡ length l.initial.area) × (length l.marks ≡ most_sources)
+    (gates l.area ≡ l.count) × (inputs l.area ≡ l.n) × Workable l.area × (length l.area ≡ length l.initial.area) × (length l.marks ≡ most_sources)
     × (work_marked l.area l.marks l.gate (l.count - l.gate) ≡ work_marked l.initial.area l.initial.marks l.from (gates l.initial.area - l.from))
-
-abbrev pub decreases-loop-gate : goal.decreases-loop-gate
-decreases-loop-gate l = l.count - l.gate

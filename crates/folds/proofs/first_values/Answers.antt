@@ -1,13 +1,13 @@
--- `folds::last_lowest` meets its contract. Assumes nothing.
+-- `folds::first_values` meets its contract. Assumes nothing.
 use Prim.Native.Nat.{ℕ}
 use mathlib.Core.Path.{ap, ◌∙◌}
 use Rattle.area.proofs.Words.{gate-inside}
 use Rattle.rows.specs.Rows.{row_at}
 use Rattle.folds.proofs.Last.{lowest-made, pin-fits, pin-few, pin-inside}
-use Rattle.folds.proofs.last_lowest.Goals as goal
+use Rattle.folds.proofs.first_values.Goals as goal
 
-pub inverted-wrong-requires : goal.inverted-wrong-requires
-inverted-wrong-requires c =
+pub inverted-turned-requires : goal.inverted-turned-requires
+inverted-turned-requires c =
     let a = c.args in
     pin-few a.area.now a.rows.now a.gate c.requires.rows_ready.0 a.number c.requires.inputs_below.1
 
@@ -32,14 +32,13 @@ first_row-requires c =
 
 pub returns : goal.returns
 returns c l less =
-    let at-inverted = c.inverted-wrong in
+    let at-inverted = c.inverted-turned in
     let at_pin = c.pin in
-    let at-wrong-lanes = c.wrong_lanes in
-    let at-wrong-lanes2 = c.wrong_lanes-2 in
+    let at-wrong-lanes2 = c.wrong_lanes in
     let a = c.args in
     let turned = at-inverted in
     let row = c.load_row.ensures l less ∙ ap (λ (c : ℕ). row_at a.rows.now c l) at_pin.ensures in
     c.first_row.ensures l less
     ∙ lowest-made a.area.now a.rows.now a.gate c.requires.rows_ready.0 a.right a.shift c.requires.rows_ready.1 a.pins a.number c.requires.inputs_below.1
     turned.result turned.ensures l less
-    c.requires.inputs_below.0 at-wrong-lanes.result at-wrong-lanes2.result _ (at-wrong-lanes.ensures l less) (at-wrong-lanes2.ensures l less) row
+    c.requires.inputs_below.0 a.wrong at-wrong-lanes2.result _ (c.requires.wrong_here l less) (at-wrong-lanes2.ensures l less) row
