@@ -247,9 +247,11 @@ fn walk_block<S: RowSink>(held: &mut HeldRows, sink: &mut S, walk: &Walk, block:
     walk_rows(held, sink, walk, &walk.live_words(&patterns), 2 * block);
 }
 
-// Not inlined: its rows are not on the stack while `plan::next_live` works.
+// The walk over all patterns: the sink takes or skips their rows in order, to the end of the last block. The area is only read: its words of figures may
+// be those of any pattern. Not inlined: its rows are not on the stack while `plan::next_live` works. Callers lend both arrays where they are made, as
+// arguments: made here, or in the literal of a `Walk`, each has two places on the stack, 183 KB in place of 167.
 #[inline(never)]
-fn walk_blocks<S: RowSink>(
+pub fn walk_patterns<S: RowSink>(
     sink: &mut S,
     area: &[u32],
     next: &[usize; area::MOST_SOURCES],
@@ -268,17 +270,6 @@ fn walk_blocks<S: RowSink>(
     for block in 0..blocks {
         walk_block(&mut held, sink, &walk, block);
     }
-}
-
-// The walk over all patterns: the sink takes or skips their rows in order, to the end of the last block. The area is only read: its words of figures may
-// be those of any pattern. Both arrays are lent as arguments where they are made, each in one place on the stack; in the literal of a `Walk` it would be two.
-// Not inlined, since both would be copied where this is a part of its caller.
-#[inline(never)]
-pub fn walk_patterns<S: RowSink>(sink: &mut S, area: &[u32])
-    requires { Workable area.now × S.Done sink.old area.now 0 }
-    ensures { S.Done sink.new area.now (walked_to area.now) × (S.fixed sink.new ≡ S.fixed sink.old) }
-{
-    walk_blocks(sink, area, &plan::next_live(area), &plan::unseen_bits(area));
 }
 
 // The sum over the patterns of their reliabilities, each times its weight.
@@ -324,7 +315,12 @@ fn weighted_sum(area: &[u32], weights: &[u32]) -> u64
     ensures { result ≡ weighted_to area.now weights.now (length weights.now) }
 {
     let mut sink = Weighted { weights, sum: 0 };
-    walk_patterns(&mut sink, area);
+    walk_patterns(
+        &mut sink,
+        area,
+        &plan::next_live(area),
+        &plan::unseen_bits(area),
+    );
     sink.sum
 }
 
