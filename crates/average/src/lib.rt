@@ -141,7 +141,8 @@ pub struct HeldRows {
 
 impl HeldRows {
     // The rows of all live gates for the row of patterns with this number, in order; no live gate or output reads a dead gate. A gate that does not
-    // tell the row held so far from this one keeps its own.
+    // tell the row held so far from this one keeps its own. A part of its caller, so that no `Walk` stands in memory: arrays whose places do are copied.
+    #[inline(always)]
     pub fn work(&mut self, walk: &Walk, words: &[u64; area::MOST_SOURCES], number: usize)
         requires planned { Planned walk.now.area.now walk.now.next.now walk.now.unseen.now }
         requires values_from { ValuesFrom walk.now.area.now words.now (row_length * number) × (number < row_count) }
@@ -188,6 +189,7 @@ pub trait RowSink {
 }
 
 // The row with this number, worked out unless the sink skips it.
+#[inline(always)]
 fn walk_row<S: RowSink>(
     held: &mut HeldRows,
     sink: &mut S,
@@ -210,24 +212,24 @@ fn walk_row<S: RowSink>(
     sink.take(walk.area, start, reliability_row(&held.rows, walk.area));
 }
 
-// Both rows of a block, one after the other, from the same words.
+// Both rows of a block, from this one on, from the same words.
 fn walk_rows<S: RowSink>(
     held: &mut HeldRows,
     sink: &mut S,
     walk: &Walk,
     words: &[u64; area::MOST_SOURCES],
-    number: usize,
+    first: usize,
 )
-    requires planned { Planned walk.now.area.now walk.now.next.now walk.now.unseen.now }
-    requires values_from { ValuesFrom walk.now.area.now words.now (row_length * number)
-        × ValuesFrom walk.now.area.now words.now (row_length * (number + 1)) × (number + 1 < row_count) }
+    requires planned { Planned walk.now.area.now walk.now.next.now walk.now.unseen.now × (first + 2 ≤ row_count) }
+    requires values_from { (n : ℕ) → first ≤ n → n < first + 2 → ValuesFrom walk.now.area.now words.now (row_length * n) }
     requires rows_kept { RowsFor walk.now.area.now walk.now.unseen.now held.old.rows held.old.number }
-    requires done { S.Done sink.old walk.now.area.now (row_length * number) }
-    ensures done_2 { S.Done sink.new walk.now.area.now (row_length * (number + 1 + 1)) × (S.fixed sink.new ≡ S.fixed sink.old) }
+    requires done { S.Done sink.old walk.now.area.now (row_length * first) }
+    ensures done_2 { S.Done sink.new walk.now.area.now (row_length * (first + 2)) × (S.fixed sink.new ≡ S.fixed sink.old) }
     ensures rows_kept_2 { RowsFor walk.now.area.now walk.now.unseen.now held.new.rows held.new.number }
 {
-    walk_row(held, sink, walk, words, number);
-    walk_row(held, sink, walk, words, number + 1);
+    for number in first..first + 2 {
+        walk_row(held, sink, walk, words, number);
+    }
 }
 
 // The 64 patterns of a block: right values for all of them in one word, failures in two rows. The words are lent where they are made, since an array
