@@ -104,6 +104,28 @@ fn same_row(unseen: &[usize; area::MOST_SOURCES], source: usize, held: usize, nu
     held >> unseen[source] == number >> unseen[source]
 }
 
+// The right values of the inputs and of the live gates under 64 patterns. Not inlined: its array is on the stack only while it works. It takes no `Walk`,
+// which would have to stand in memory for it: the arrays that it names would be copied there, 183 KB of stack in place of 167.
+#[inline(never)]
+pub fn live_words(
+    area: &[u32],
+    next: &[usize; area::MOST_SOURCES],
+    patterns: &[u32],
+) -> [u64; area::MOST_SOURCES]
+    requires { NetSound area.now × NextLive area.now next.now 0 × (length patterns.now ≤ lane_count) }
+    ensures { LiveWords area.now patterns.now result (layout.gates area.now) }
+{
+    let count = area::gates(area);
+    let mut words = [0u64; area::MOST_SOURCES];
+    signals::write_inputs(&mut words, patterns, area::inputs(area));
+    let mut gate = next[0];
+    while gate < count {
+        signals::work_word(&mut words, area, gate);
+        gate = next[gate + 1];
+    }
+    words
+}
+
 // What a walk over all patterns of an area knows beforehand: from each gate on the lowest live one, and the bits of a row's number that each source
 // does not see.
 #[derive(Clone, Copy)]
@@ -111,25 +133,6 @@ pub struct Walk<'a> {
     pub area: &'a [u32],
     pub next: &'a [usize; area::MOST_SOURCES],
     pub unseen: &'a [usize; area::MOST_SOURCES],
-}
-
-impl Walk<'_> {
-    // The right values of the inputs and of the live gates under 64 patterns. Not inlined: its array is on the stack only while it works.
-    #[inline(never)]
-    pub fn live_words(&self, patterns: &[u32]) -> [u64; area::MOST_SOURCES]
-        requires { NetSound self.now.area.now × NextLive self.now.area.now self.now.next.now 0 × (length patterns.now ≤ lane_count) }
-        ensures { LiveWords self.now.area.now patterns.now result (layout.gates self.now.area.now) }
-    {
-        let count = area::gates(self.area);
-        let mut words = [0u64; area::MOST_SOURCES];
-        signals::write_inputs(&mut words, patterns, area::inputs(self.area));
-        let mut gate = self.next[0];
-        while gate < count {
-            signals::work_word(&mut words, self.area, gate);
-            gate = self.next[gate + 1];
-        }
-        words
-    }
 }
 
 // The rows of all sources, and the number of the row of patterns that they have been worked out for.
@@ -246,7 +249,13 @@ fn walk_block<S: RowSink>(held: &mut HeldRows, sink: &mut S, walk: &Walk, block:
         return;
     }
     let patterns = block_patterns(area::inputs(walk.area), first);
-    walk_rows(held, sink, walk, &walk.live_words(&patterns), 2 * block);
+    walk_rows(
+        held,
+        sink,
+        walk,
+        &live_words(walk.area, walk.next, &patterns),
+        2 * block,
+    );
 }
 
 // The walk over all patterns: the sink takes or skips their rows in order, to the end of the last block. The area is only read: its words of figures may
