@@ -77,6 +77,7 @@ pub fn reliability_row(rows: &[u32; rows::ROW_WORDS], area: &[u32]) -> [u32; row
     let mut row = [rounding::ONE; rows::LANES];
     for k in 0..area::outputs(area) {
         let source = area::index(area::output(area, k));
+        // Tried as one line: a call's array laid straight in a local that it reads has no generated proof.
         let next = rows::output_row(row, rows, source);
         row = next;
     }
@@ -118,6 +119,7 @@ pub fn live_words(
     let count = area::gates(area);
     let mut words = [0u64; area::MOST_SOURCES];
     signals::write_inputs(&mut words, patterns, area::inputs(area));
+    // The table links each live gate to the next: no range has them, and an iterator of them would be longer than the three lines that follow.
     let mut gate = next[0];
     while gate < count {
         signals::work_word(&mut words, area, gate);
@@ -157,6 +159,7 @@ impl HeldRows {
         let count = area::gates(walk.area);
         let shift = rows::LANES * number % signals::LANES;
         let held = self.number;
+        // Linked like the gates of `live_words`.
         let mut gate = walk.next[0];
         while gate < count {
             if !same_row(walk.unseen, inputs + gate, held, number) {
