@@ -261,11 +261,9 @@ fn walk_block<S: RowSink>(held: &mut HeldRows, sink: &mut S, walk: &Walk, block:
     );
 }
 
-// The walk over all patterns: the sink takes or skips their rows in order, to the end of the last block. The area is only read: its words of figures may
-// be those of any pattern. Not inlined: its rows are not on the stack while `plan::next_live` works. Callers lend both arrays where they are made, as
-// arguments: made here, or in the literal of a `Walk`, each has two places on the stack, 183 KB in place of 167.
+// Not inlined: its rows are not on the stack while `plan::next_live` works. No `Walk` that it makes stands in memory, or both arrays would be copied there.
 #[inline(never)]
-pub fn walk_patterns<S: RowSink>(
+fn walk_blocks<S: RowSink>(
     sink: &mut S,
     area: &[u32],
     next: &[usize; area::MOST_SOURCES],
@@ -284,6 +282,15 @@ pub fn walk_patterns<S: RowSink>(
     for block in 0..blocks {
         walk_block(&mut held, sink, &walk, block);
     }
+}
+
+// The walk over all patterns: the sink takes or skips their rows in order, to the end of the last block. The area is only read: its words of figures may
+// be those of any pattern. Both arrays are lent where they are made, each in one place on the stack.
+pub fn walk_patterns<S: RowSink>(sink: &mut S, area: &[u32])
+    requires { Workable area.now × S.Done sink.old area.now 0 }
+    ensures { S.Done sink.new area.now (walked_to area.now) × (S.fixed sink.new ≡ S.fixed sink.old) }
+{
+    walk_blocks(sink, area, &plan::next_live(area), &plan::unseen_bits(area));
 }
 
 // The sum over the patterns of their reliabilities, each times its weight.
@@ -329,12 +336,7 @@ fn weighted_sum(area: &[u32], weights: &[u32]) -> u64
     ensures { result ≡ weighted_to area.now weights.now (length weights.now) }
 {
     let mut sink = Weighted { weights, sum: 0 };
-    walk_patterns(
-        &mut sink,
-        area,
-        &plan::next_live(area),
-        &plan::unseen_bits(area),
-    );
+    walk_patterns(&mut sink, area);
     sink.sum
 }
 

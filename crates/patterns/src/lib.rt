@@ -35,10 +35,5 @@ pub fn each_reliability(figures: &mut [u32], area: &[u32])
     requires { Workable area.now × (layout.most_patterns ≤ length figures.old) }
     ensures { EachReliability area.now figures.new }
 {
-    average::walk_patterns(
-        &mut Figures { figures },
-        area,
-        &plan::next_live(area),
-        &plan::unseen_bits(area),
-    );
+    average::walk_patterns(&mut Figures { figures }, area);
 }

@@ -7,7 +7,7 @@ use Rattle.average.proofs.weighted_sum.Goals as goal
 
 pub walk_patterns-requires : goal.walk_patterns-requires
 unfolding weighted_to
-walk_patterns-requires c = record { planned = (c.requires.workable, c.next_live.ensures, c.unseen_bits.ensures); done = (c.requires.weights_fit, refl) }
+walk_patterns-requires c = (c.requires.workable, (c.requires.weights_fit, refl))
 
 pub returns : goal.returns
 returns c =

@@ -1,10 +1,10 @@
--- `average::walk_patterns` meets its contract: block after block, the patterns before it are done. Assumes nothing.
+-- `average::walk_blocks` meets its contract: block after block, the patterns before it are done. Assumes nothing.
 use Rattle.std.proofs.Common.{ℕ, ◌+◌, ◌*◌, refl}
 use Rattle.lists.proofs.Parts.{zeros-at}
 use Rattle.rows.specs.Rows.{row_words, row_length}
 use Rattle.average.proofs.Runs.{held_none}
 use Rattle.std.proofs.Math.ListN.{replicate, length-replicate}
-use Rattle.average.proofs.walk_patterns.Goals as goal
+use Rattle.average.proofs.walk_blocks.Goals as goal
 
 pub loop-block-init : goal.loop-block-init
 loop-block-init g c = (

@@ -1,7 +1,7 @@
 use Rattle.std.proofs.Common.{◌≡◌, ◌*◌}
 use Rattle.signals.specs.Signals.{lane_count}
 use Rattle.average.specs.Walked.{RowsFor}
-use Rattle.average.proofs.walk_patterns.Given as goal
+use Rattle.average.proofs.walk_blocks.Given as goal
 
 abbrev pub invariant-loop-block : goal.invariant-loop-block
 invariant-loop-block g l =
