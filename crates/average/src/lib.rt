@@ -131,10 +131,10 @@ pub fn live_words(
 // What a walk over all patterns of an area knows beforehand: from each gate on the lowest live one, and the bits of a row's number that each source
 // does not see.
 #[derive(Clone, Copy)]
-pub struct Walk<'a> {
-    pub area: &'a [u32],
-    pub next: &'a [usize; area::MOST_SOURCES],
-    pub unseen: &'a [usize; area::MOST_SOURCES],
+struct Walk<'a> {
+    area: &'a [u32],
+    next: &'a [usize; area::MOST_SOURCES],
+    unseen: &'a [usize; area::MOST_SOURCES],
 }
 
 // The rows of all sources, and the number of the row of patterns that they have been worked out for.
