@@ -78,6 +78,7 @@ pub fn reliability_row(rows: &[u32; rows::ROW_WORDS], area: &[u32]) -> [u32; row
     let mut row = [rounding::ONE; rows::LANES];
     for k in 0..area::outputs(area) {
         let source = area::index(area::output(area, k));
+        // Tried as one line: a call's array laid straight in a local that it reads has no generated proof.
         let next = rows::output_row(row, rows, source);
         row = next;
     }
@@ -105,32 +106,36 @@ fn same_row(unseen: &[usize; area::MOST_SOURCES], source: usize, held: usize, nu
     held >> unseen[source] == number >> unseen[source]
 }
 
+// The right values of the inputs and of the live gates under 64 patterns. Not inlined: its array is on the stack only while it works. It takes no `Walk`,
+// which would have to stand in memory for it: the arrays that it names would be copied there, 183 KB of stack in place of 167.
+#[inline(never)]
+pub fn live_words(
+    area: &[u32],
+    next: &[usize; area::MOST_SOURCES],
+    patterns: &[u32],
+) -> [u64; area::MOST_SOURCES]
+    requires { NetSound area.now × NextLive area.now next.now 0 × (length patterns.now ≤ lane_count) }
+    ensures { LiveWords area.now patterns.now result (layout.gates area.now) }
+{
+    let count = area::gates(area);
+    let mut words = [0u64; area::MOST_SOURCES];
+    signals::write_inputs(&mut words, patterns, area::inputs(area));
+    // The table links each live gate to the next: no range has them, and an iterator of them would be longer than the three lines that follow.
+    let mut gate = next[0];
+    while gate < count {
+        signals::work_word(&mut words, area, gate);
+        gate = next[gate + 1];
+    }
+    words
+}
+
 // What a walk over all patterns of an area knows beforehand: from each gate on the lowest live one, and the bits of a row's number that each source
 // does not see.
 #[derive(Clone, Copy)]
-pub struct Walk<'a> {
-    pub area: &'a [u32],
-    pub next: &'a [usize; area::MOST_SOURCES],
-    pub unseen: &'a [usize; area::MOST_SOURCES],
-}
-
-impl Walk<'_> {
-    // The right values of the inputs and of the live gates under 64 patterns. Not inlined: its array is on the stack only while it works.
-    #[inline(never)]
-    pub fn live_words(&self, patterns: &[u32]) -> [u64; area::MOST_SOURCES]
-        requires { NetSound self.now.area.now × NextLive self.now.area.now self.now.next.now 0 × (length patterns.now ≤ lane_count) }
-        ensures { LiveWords self.now.area.now patterns.now result (layout.gates self.now.area.now) }
-    {
-        let count = area::gates(self.area);
-        let mut words = [0u64; area::MOST_SOURCES];
-        signals::write_inputs(&mut words, patterns, area::inputs(self.area));
-        let mut gate = self.next[0];
-        while gate < count {
-            signals::work_word(&mut words, self.area, gate);
-            gate = self.next[gate + 1];
-        }
-        words
-    }
+struct Walk<'a> {
+    area: &'a [u32],
+    next: &'a [usize; area::MOST_SOURCES],
+    unseen: &'a [usize; area::MOST_SOURCES],
 }
 
 // The rows of all sources, and the number of the row of patterns that they have been worked out for.
@@ -142,24 +147,32 @@ pub struct HeldRows {
 
 impl HeldRows {
     // The rows of all live gates for the row of patterns with this number, in order; no live gate or output reads a dead gate. A gate that does not
-    // tell the row held so far from this one keeps its own.
-    pub fn work(&mut self, walk: &Walk, words: &[u64; area::MOST_SOURCES], number: usize)
-        requires planned { Planned walk.now.area.now walk.now.next.now walk.now.unseen.now }
-        requires values_from { ValuesFrom walk.now.area.now words.now (row_length * number) × (number < row_count) }
-        requires rows_kept { RowsFor walk.now.area.now walk.now.unseen.now self.old.rows self.old.number }
-        ensures block { Block walk.now.area.now self.new.rows (row_length * number) (layout.gates walk.now.area.now) }
-        ensures rows_kept_2 { RowsFor walk.now.area.now walk.now.unseen.now self.new.rows self.new.number }
+    // tell the row held so far from this one keeps its own. It takes no `Walk`, as `live_words` takes none; as a part of its caller it was 1.05 times as slow.
+    pub fn work(
+        &mut self,
+        area: &[u32],
+        next: &[usize; area::MOST_SOURCES],
+        unseen: &[usize; area::MOST_SOURCES],
+        words: &[u64; area::MOST_SOURCES],
+        number: usize,
+    )
+        requires planned { Planned area.now next.now unseen.now }
+        requires values_from { ValuesFrom area.now words.now (row_length * number) × (number < row_count) }
+        requires rows_kept { RowsFor area.now unseen.now self.old.rows self.old.number }
+        ensures block { Block area.now self.new.rows (row_length * number) (layout.gates area.now) }
+        ensures rows_kept_2 { RowsFor area.now unseen.now self.new.rows self.new.number }
     {
-        let inputs = area::inputs(walk.area);
-        let count = area::gates(walk.area);
+        let inputs = area::inputs(area);
+        let count = area::gates(area);
         let shift = rows::LANES * number % signals::LANES;
         let held = self.number;
-        let mut gate = walk.next[0];
+        // Linked like the gates of `live_words`.
+        let mut gate = next[0];
         while gate < count {
-            if !same_row(walk.unseen, inputs + gate, held, number) {
-                folds::work_row(&mut self.rows, words, walk.area, gate, shift);
+            if !same_row(unseen, inputs + gate, held, number) {
+                folds::work_row(&mut self.rows, words, area, gate, shift);
             }
-            gate = walk.next[gate + 1];
+            gate = next[gate + 1];
         }
         self.number = number;
     }
@@ -189,6 +202,7 @@ pub trait RowSink {
 }
 
 // The row with this number, worked out unless the sink skips it.
+#[inline(always)]
 fn walk_row<S: RowSink>(
     held: &mut HeldRows,
     sink: &mut S,
@@ -207,28 +221,28 @@ fn walk_row<S: RowSink>(
     if sink.skips(walk.area, start, rows::LANES) {
         return;
     }
-    held.work(walk, words, number);
+    held.work(walk.area, walk.next, walk.unseen, words, number);
     sink.take(walk.area, start, reliability_row(&held.rows, walk.area));
 }
 
-// Both rows of a block, one after the other, from the same words.
+// Both rows of a block, from this one on, from the same words.
 fn walk_rows<S: RowSink>(
     held: &mut HeldRows,
     sink: &mut S,
     walk: &Walk,
     words: &[u64; area::MOST_SOURCES],
-    number: usize,
+    first: usize,
 )
-    requires planned { Planned walk.now.area.now walk.now.next.now walk.now.unseen.now }
-    requires values_from { ValuesFrom walk.now.area.now words.now (row_length * number)
-        × ValuesFrom walk.now.area.now words.now (row_length * (number + 1)) × (number + 1 < row_count) }
+    requires planned { Planned walk.now.area.now walk.now.next.now walk.now.unseen.now × (first + 2 ≤ row_count) }
+    requires values_from { (n : ℕ) → first ≤ n → n < first + 2 → ValuesFrom walk.now.area.now words.now (row_length * n) }
     requires rows_kept { RowsFor walk.now.area.now walk.now.unseen.now held.old.rows held.old.number }
-    requires done { S.Done sink.old walk.now.area.now (row_length * number) }
-    ensures done_2 { S.Done sink.new walk.now.area.now (row_length * (number + 1 + 1)) × (S.fixed sink.new ≡ S.fixed sink.old) }
+    requires done { S.Done sink.old walk.now.area.now (row_length * first) }
+    ensures done_2 { S.Done sink.new walk.now.area.now (row_length * (first + 2)) × (S.fixed sink.new ≡ S.fixed sink.old) }
     ensures rows_kept_2 { RowsFor walk.now.area.now walk.now.unseen.now held.new.rows held.new.number }
 {
-    walk_row(held, sink, walk, words, number);
-    walk_row(held, sink, walk, words, number + 1);
+    for number in first..first + 2 {
+        walk_row(held, sink, walk, words, number);
+    }
 }
 
 // The 64 patterns of a block: right values for all of them in one word, failures in two rows. The words are lent where they are made, since an array
@@ -245,10 +259,16 @@ fn walk_block<S: RowSink>(held: &mut HeldRows, sink: &mut S, walk: &Walk, block:
         return;
     }
     let patterns = block_patterns(area::inputs(walk.area), first);
-    walk_rows(held, sink, walk, &walk.live_words(&patterns), 2 * block);
+    walk_rows(
+        held,
+        sink,
+        walk,
+        &live_words(walk.area, walk.next, &patterns),
+        2 * block,
+    );
 }
 
-// Not inlined: its rows are not on the stack while `plan::next_live` works.
+// Not inlined: its rows are not on the stack while `plan::next_live` works. No `Walk` that it makes stands in memory, or both arrays would be copied there.
 #[inline(never)]
 fn walk_blocks<S: RowSink>(
     sink: &mut S,
@@ -272,9 +292,7 @@ fn walk_blocks<S: RowSink>(
 }
 
 // The walk over all patterns: the sink takes or skips their rows in order, to the end of the last block. The area is only read: its words of figures may
-// be those of any pattern. Both arrays are lent as arguments where they are made, each in one place on the stack; in the literal of a `Walk` it would be two.
-// Not inlined, since both would be copied where this is a part of its caller.
-#[inline(never)]
+// be those of any pattern. Both arrays are lent where they are made, each in one place on the stack.
 pub fn walk_patterns<S: RowSink>(sink: &mut S, area: &[u32])
     requires { Workable area.now × S.Done sink.old area.now 0 }
     ensures { S.Done sink.new area.now (walked_to area.now) × (S.fixed sink.new ≡ S.fixed sink.old) }

@@ -103,24 +103,18 @@ fn count_one(counts: Counts, verdict: Verdict) -> Counts
         × (result.second ≡ counts.second + bit_of (same_verdict Verdict.Second verdict))
         × (result.neither ≡ counts.neither + bit_of (same_verdict Verdict.Undecided verdict)) }
 {
-    let first = counts.first;
-    let second = counts.second;
-    let neither = counts.neither;
     match verdict {
         Verdict::First => Counts {
-            first: first + 1,
-            second: second,
-            neither: neither,
+            first: counts.first + 1,
+            ..counts
         },
         Verdict::Second => Counts {
-            first: first,
-            second: second + 1,
-            neither: neither,
+            second: counts.second + 1,
+            ..counts
         },
         Verdict::Undecided => Counts {
-            first: first,
-            second: second,
-            neither: neither + 1,
+            neither: counts.neither + 1,
+            ..counts
         },
     }
 }
@@ -135,10 +129,8 @@ fn count_patterns(first: &[u32], second: &[u32], errors: u64, count: usize) -> C
         second: 0,
         neither: 0,
     };
-    let mut q = 0;
-    while q < count {
-        counts = count_one(counts, judge(errors, first[q], second[q]));
-        q += 1;
+    for (one, other) in first[..count].iter().zip(&second[..count]) {
+        counts = count_one(counts, judge(errors, *one, *other));
     }
     counts
 }
@@ -150,10 +142,8 @@ fn equal_mean(figures: &[u32], count: usize) -> u32
     ensures { result ≡ round_div (sum_below count (λ q. get_or figures.now q 0)) count }
 {
     let mut sum = 0;
-    let mut q = 0;
-    while q < count {
-        sum += figures[q] as u64;
-        q += 1;
+    for figure in &figures[..count] {
+        sum += u64::from(*figure);
     }
     rounding::rounded(sum, count as u64) as u32
 }

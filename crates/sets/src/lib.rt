@@ -74,6 +74,7 @@ impl Marked<'_> {
     {
         let inputs = area::inputs(area);
         let count = area::gates(area);
+        // The table links each marked gate to the next: no range has them, and an iterator of them would be longer.
         let mut gate = self.next[from];
         while gate < count {
             work::work_gate(area, gate);

@@ -6,14 +6,15 @@ use native.Mathlib.Omega.{arith}
 use lib.ListN.{length, get_or, drop_of_length-le, replicate, get_or-replicate}
 use Rattle.area.proofs.Words.{output-at, output_count, output-below, few-sources}
 use Rattle.area.specs.Figures.{product_from}
-use Rattle.area.specs.Layout.{outputs, output_words}
+use Rattle.area.specs.Layout.{outputs, output, output_words}
+use Rattle.area.specs.Rules.{NetSound}
 use Rattle.figure.proofs.Laws.{output-at-most}
 use Rattle.figure.specs.Figure.{output_step, failure_of}
 use Rattle.rounding.specs.Rounding.{units_in_one}
 use Rattle.rows.specs.Rows.{row_length, row_at}
 use Rattle.work.proofs.Loops.{product-turn}
-use Rattle.average.specs.Blocks.{row_word}
-use Rattle.average.proofs.reliability_row.Goals.{After-index-source, In-loop-k}
+use Rattle.average.specs.Blocks.{row_word, OutputsFit}
+use Rattle.average.proofs.reliability_row.Goals.{In-loop-k}
 use Rattle.average.proofs.reliability_row.Goals as goal
 
 -- a turn's output
@@ -31,12 +32,15 @@ module _ (c : In-loop-k) where
   inside = omega (arith, used, output_count ws c.requires.0)
 
 -- the source that it reads
-module _ (c : After-index-source) where
-  here : c.index-source.result ≡ get_or (output_words (ws (record { before = c.before.before.before; type_inv = record { area = c.shared_slice_known-1.given } }))) (k (record { before = c.before.before.before; type_inv = record { area = c.shared_slice_known-1.given } })) 0
-  here = c.index-source.ensures ∙ c.output.ensures ∙ output-at (ws (record { before = c.before.before.before; type_inv = record { area = c.shared_slice_known-1.given } })) (k (record { before = c.before.before.before; type_inv = record { area = c.shared_slice_known-1.given } })) (used (record { before = c.before.before.before; type_inv = record { area = c.shared_slice_known-1.given } }))
+module _ (area rows : List ℕ) (sound : NetSound area × OutputsFit area rows) (at source : ℕ) (used-here : at < outputs area) (is : source ≡ output area at) where
+  place : at < length (output_words area)
+  place = omega (arith, used-here, output_count area sound.0)
 
-  fits : (l : ℕ) → l < row_length → row_at c.args.rows.now c.index-source.result l ≤ units_in_one
-  fits l less = subst (λ (x : ℕ). row_at c.args.rows.now x l ≤ units_in_one) (sym here) (c.requires.1 (k (record { before = c.before.before.before; type_inv = record { area = c.shared_slice_known-1.given } })) l (inside (record { before = c.before.before.before; type_inv = record { area = c.shared_slice_known-1.given } })) less)
+  here : source ≡ get_or (output_words area) at 0
+  here = is ∙ output-at area at used-here
+
+  fits : (l : ℕ) → l < row_length → row_at rows source l ≤ units_in_one
+  fits l less = subst (λ (x : ℕ). row_at rows x l ≤ units_in_one) (sym here) (sound.1 at l place less)
 
 pub outputs-k-end-requires : goal.outputs-k-end-requires
 outputs-k-end-requires c =
@@ -56,21 +60,27 @@ output-requires c = record { area_bound = (c.requires.0.gates_fit, omega (arith,
 pub output_row-next-requires : goal.output_row-next-requires
 output_row-next-requires c =
     let turn = (goal.at.output_row-next-requires c).In-loop-k in
-    let at-loop = c.loop-k in record {
+    let is = c.index-source.ensures ∙ c.output.ensures in
+    let source = c.index-source.result in record {
       row_fits = (
-        at-loop.invariant.0,
-        omega
-            (arith, here c, output-below (ws turn) c.requires.0 (k turn) (inside turn), few-sources (ws turn) c.requires.0),
+        c.loop-k.invariant.0,
+        omega (
+          arith,
+          here (ws turn) c.args.rows.now c.requires (k turn) source (used turn) is,
+          output-below (ws turn) c.requires.0 (k turn) (inside turn),
+          few-sources (ws turn) c.requires.0,
+        ),
       );
-      by_index = fits c;
+      by_index = fits (ws turn) c.args.rows.now c.requires (k turn) source (used turn) is;
     }
 
 pub loop-k-preserved : goal.loop-k-preserved
 loop-k-preserved c =
-    let at-loop = c.loop-k in
-    let l = at-loop in
+    let l = c.loop-k in
+    let turn = (goal.at.loop-k-preserved c).In-loop-k in
+    let is = c.index-source.ensures ∙ c.output.ensures in
     let step = c.output_row-next in (
-      λ m less. rw (step.ensures m less) (output-at-most units_in_one (omega arith) (get_or l.row m 0) _ (l.invariant.0 m less) (fits (goal.at.loop-k-preserved c).After-index-source m less)),
+      λ m less. rw (step.ensures m less) (output-at-most units_in_one (omega arith) (get_or l.row m 0) _ (l.invariant.0 m less) (fits (ws turn) c.args.rows.now c.requires l.k c.index-source.result (used turn) is m less)),
       λ m less.
           let half : 2 * row_at c.args.rows.now c.index-source.result m / 2 ≡ row_at c.args.rows.now
           c.index-source.result m = omega arith in
@@ -78,7 +88,7 @@ loop-k-preserved c =
           (inside (goal.at.loop-k-preserved c).In-loop-k)
           (step.ensures m less
           ∙ ap (output_step units_in_one (get_or l.row m 0)) (sym half)
-          ∙ ap (λ (o : ℕ). output_step units_in_one (get_or l.row m 0) (failure_of (row_word c.args.rows.now m o))) (here (goal.at.loop-k-preserved c).After-index-source))
+          ∙ ap (λ (o : ℕ). output_step units_in_one (get_or l.row m 0) (failure_of (row_word c.args.rows.now m o))) (here (ws turn) c.args.rows.now c.requires l.k c.index-source.result (used turn) is))
           (l.invariant.1 m less),
     )
 

@@ -1,5 +1,5 @@
 -- `average::walk_block` meets its contract: both rows read the words of one block. Assumes nothing.
-use Prim.Native.Nat.{◌+◌, ◌*◌}
+use Prim.Native.Nat.{◌*◌}
 use native.Mathlib.Omega.{arith}
 use Rattle.rows.specs.Rows.{row_length}
 use Rattle.signals.specs.Signals.{lane_count}
@@ -11,10 +11,6 @@ walk_rows-requires-clause-values_from g c =
     let a = c.args in
     let made = c.block_patterns-patterns in
     let each = rw c.inputs.ensures at made.ensures.by_index in
-    let first = lane_count * a.block in (
-      values-from a.walk.now.area.now made.result c.requires.planned.0.0.net c.live_words.result first (row_length * (2 * a.block)) (omega arith)
-          (omega arith) (omega arith) each c.live_words.ensures,
-      values-from a.walk.now.area.now made.result c.requires.planned.0.0.net c.live_words.result first (row_length * (2 * a.block + 1)) (omega arith)
-          (omega arith) (omega arith) each c.live_words.ensures,
-      omega (arith, c.requires.planned.1),
-    )
+    λ n from to.
+    values-from a.walk.now.area.now made.result c.requires.planned.0.0.net c.live_words.result (lane_count * a.block) (row_length * n) (omega arith)
+    (omega arith) (omega arith) each c.live_words.ensures

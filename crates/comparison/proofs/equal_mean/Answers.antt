@@ -1,8 +1,9 @@
--- `comparison::equal_mean` meets its contract: the sum of the first q figures, turn by turn. Assumes nothing.
-use Prim.Native.Nat.{ℕ, ◌*◌, ◌≤◌}
-use mathlib.Core.Path.{◌≡◌, refl, ap, ◌∙◌}
+-- `comparison::equal_mean` meets its contract: the sum of the first figures, turn by turn. Assumes nothing.
+use Prim.Native.Nat.{ℕ, ◌*◌, ◌≤◌, ◌<◌}
+use mathlib.Core.Path.{◌≡◌, ap, ◌∙◌}
 use native.Mathlib.Omega.{arith}
-use lib.ListN.{get_or}
+use lib.ListN.{length, get_or, take, length-take}
+use Rattle.std.proofs.Common.{get_or-take}
 use Rattle.lists.specs.Lists.{sum_below}
 use Rattle.lists.proofs.Sums.{sum_more, sum-bounded}
 use Rattle.rounding.specs.Rounding.{units_in_one, round_div}
@@ -15,45 +16,62 @@ module _ (s : Start) where
   abbrev each : ℕ → ℕ
   each i = get_or s.args.figures.now i 0
 
+  size : length (take s.args.count s.args.figures.now) ≡ s.args.count
+  size = omega (arith, length-take s.args.count s.args.figures.now, s.requires.count_nonzero.1)
+
   most : (q : ℕ) → q ≤ s.args.count → sum_below q each ≤ q * units_in_one
   most q l = sum-bounded each units_in_one q (λ j less. s.requires.by_index j (omega arith))
 
-pub loop-q-init : goal.loop-q-init
-loop-q-init c = (omega arith, refl)
+-- a turn's figure
+module _ (s : Start) (i read : ℕ) (inside : i < length (take s.args.count s.args.figures.now))
+    (is : read ≡ get_or (take s.args.count s.args.figures.now) i 0) where
+  less : i < s.args.count
+  less = omega (arith, size s, inside)
 
-pub overflow_cast-sum : goal.overflow_cast-sum
-overflow_cast-sum c = omega (arith, c.requires.by_index c.loop-q.q c.loop-q-test.true)
+  here : read ≡ each s i
+  here = is ∙ get_or-take s.args.count s.args.figures.now i 0 less
+
+  fits : read ≤ units_in_one
+  fits = rw here (s.requires.by_index i less)
 
 pub overflow_add-sum : goal.overflow_add-sum
 overflow_add-sum c =
-    let l = c.loop-q in
+    let s = (goal.at.overflow_add-sum c).Start in
+    let l = c.loop-figure in
+    let inside = c.loop-figure-test.true in
+    let below = less s l.figure-index c.from-sum.result inside c.from-sum.ensures in
     omega (
       arith,
-      l.invariant.1,
-      most (goal.at.overflow_add-sum c).Start l.q l.invariant.0,
-      c.requires.by_index l.q c.loop-q-test.true,
-      l.invariant.0,
+      l.invariant,
+      fits s l.figure-index c.from-sum.result inside c.from-sum.ensures,
+      most s l.figure-index (omega arith),
       c.requires.count_nonzero.2,
     )
 
-pub loop-q-preserved : goal.loop-q-preserved
-loop-q-preserved c =
-    let l = c.loop-q in
-    (omega arith, sum_more (each (goal.at.loop-q-preserved c).Start) l.q l.sum _ l.invariant.1 refl)
+pub loop-figure-preserved : goal.loop-figure-preserved
+loop-figure-preserved c =
+    let s = (goal.at.loop-figure-preserved c).Start in
+    let l = c.loop-figure in
+    sum_more (each s) l.figure-index l.sum _ l.invariant (here s l.figure-index c.from-sum.result c.loop-figure-test.true c.from-sum.ensures)
 
 pub rounded-requires : goal.rounded-requires
 rounded-requires c =
-    let l = c.loop-q in record { count_nonzero = c.requires.count_nonzero.0; count_bound = omega (arith, l.invariant.1, most (goal.at.rounded-requires c).Start l.q l.invariant.0, l.invariant.0, c.requires.count_nonzero.2) }
+    let s = (goal.at.rounded-requires c).Start in
+    let l = c.loop-figure in
+    let few : l.figure-index ≤ c.args.count = omega (arith, size s) in
+    record { count_nonzero = c.requires.count_nonzero.0; count_bound = omega (arith, l.invariant, most s l.figure-index few, c.requires.count_nonzero.2) }
 
 pub overflow_cast-result : goal.overflow_cast-result
 overflow_cast-result c =
-    let l = c.loop-q in
-    let all : l.q ≡ c.args.count = omega arith in
-    let sum : l.sum ≤ units_in_one * c.args.count = omega (arith, l.invariant.1, most (goal.at.overflow_cast-result c).Start l.q l.invariant.0, all) in
+    let s = (goal.at.overflow_cast-result c).Start in
+    let l = c.loop-figure in
+    let all : l.figure-index ≡ c.args.count = omega (arith, size s) in
+    let sum : l.sum ≤ units_in_one * c.args.count = omega (arith, l.invariant, most s l.figure-index (omega arith), all) in
     omega (arith, c.rounded.ensures, at_most l.sum c.args.count c.requires.count_nonzero.0 units_in_one sum)
 
 pub returns : goal.returns
 returns c =
-    let l = c.loop-q in
-    let all : l.q ≡ c.args.count = omega arith in
-    c.rounded.ensures ∙ ap (λ (sum : ℕ). round_div sum c.args.count) (l.invariant.1 ∙ ap (λ (k : ℕ). sum_below k (each (goal.at.returns c).Start)) all)
+    let s = (goal.at.returns c).Start in
+    let l = c.loop-figure in
+    let all : l.figure-index ≡ c.args.count = omega (arith, size s) in
+    c.rounded.ensures ∙ ap (λ (sum : ℕ). round_div sum c.args.count) (l.invariant ∙ ap (λ (k : ℕ). sum_below k (each s)) all)

@@ -1,12 +1,6 @@
-use Prim.Native.Nat.{◌-◌, ◌≤◌}
-use mathlib.Core.Path.{◌≡◌}
-use lib.ListN.{get_or}
+use Rattle.std.proofs.Common.{◌≡◌, get_or}
 use Rattle.lists.specs.Lists.{sum_below}
 use Rattle.comparison.proofs.equal_mean.Given as goal
 
-abbrev pub invariant-loop-q : goal.invariant-loop-q
-invariant-loop-q l =
-    (l.q ≤ l.count) × (l.sum ≡ sum_below l.q (λ i. get_or l.figures i 0))
-
-abbrev pub decreases-loop-q : goal.decreases-loop-q
-decreases-loop-q l = l.count - l.q
+abbrev pub invariant-loop-figure : goal.invariant-loop-figure
+invariant-loop-figure l = l.sum ≡ sum_below l.figure-index (λ i. get_or l.fn.figures i 0)

@@ -16,12 +16,12 @@ use Rattle.average.proofs.HeldRows.work.Goals.{then-not-same_row, else-not-same_
 use Rattle.average.proofs.HeldRows.work.Goals as goal
 
 -- the next live gate
-module _ (s : Start) (rows : List ℕ) (b x : ℕ) (found : LiveFrom s.args.walk.now.area.now b x) where
+module _ (s : Start) (rows : List ℕ) (b x : ℕ) (found : LiveFrom s.args.area.now b x) where
   abbrev ws : List ℕ
-  ws = s.args.walk.now.area.now
+  ws = s.args.area.now
 
-  reach : RowsKept ws rows → Block ws rows (row_length * s.args.number) b → HeldFrom ws s.args.walk.now.unseen.now rows s.args.self.now.number s.args.number b
-      → Reached ws s.args.walk.now.unseen.now rows s.args.self.now.number s.args.number x
+  reach : RowsKept ws rows → Block ws rows (row_length * s.args.number) b → HeldFrom ws s.args.unseen.now rows s.args.self.now.number s.args.number b
+      → Reached ws s.args.unseen.now rows s.args.self.now.number s.args.number x
   reach kept block rest =
       record {
         few = found.inside;
@@ -43,8 +43,8 @@ pub overflow_mul-shift : goal.overflow_mul-shift
 overflow_mul-shift c =
     omega (arith, c.requires.values_from.1)
 
-pub bounds-walk-0 : goal.bounds-walk-0
-bounds-walk-0 c =
+pub bounds-next-0 : goal.bounds-next-0
+bounds-next-0 c =
     omega (arith, c.requires.planned.1.long)
 
 pub loop-gate-init : goal.loop-gate-init
@@ -54,20 +54,20 @@ loop-gate-init c =
 
 -- a turn's gate
 module _ (c : In-loop-gate) where
-  abbrev reached : Reached c.args.walk.now.area.now c.args.walk.now.unseen.now c.loop-gate.self.rows c.args.self.now.number c.args.number c.loop-gate.gate
+  abbrev reached : Reached c.args.area.now c.args.unseen.now c.loop-gate.self.rows c.args.self.now.number c.args.number c.loop-gate.gate
   reached = c.loop-gate.invariant
 
-  inside : c.loop-gate.gate < gates c.args.walk.now.area.now
+  inside : c.loop-gate.gate < gates c.args.area.now
   inside = omega (arith, c.gates-count.ensures)
 
   -- its source
-  place : c.inputs-inputs.result + c.loop-gate.gate ≡ inputs c.args.walk.now.area.now + c.loop-gate.gate
+  place : c.inputs-inputs.result + c.loop-gate.gate ≡ inputs c.args.area.now + c.loop-gate.gate
   place = ap (λ (n : ℕ). n + c.loop-gate.gate) c.inputs-inputs.ensures
 
   room : c.inputs-inputs.result + c.loop-gate.gate < most_sources
   room = omega (arith, inside, place, c.requires.planned.0.net.inputs_fit, c.requires.planned.0.net.gates_fit)
 
-  after : LiveFrom c.args.walk.now.area.now (c.loop-gate.gate + 1) (get_or c.args.walk.now.next.now (c.loop-gate.gate + 1) 0)
+  after : LiveFrom c.args.area.now (c.loop-gate.gate + 1) (get_or c.args.next.now (c.loop-gate.gate + 1) 0)
   after = c.requires.planned.1.each (c.loop-gate.gate + 1) (omega arith) (omega (arith, inside))
 
 pub overflow_add-inputs : goal.overflow_add-inputs
@@ -85,12 +85,12 @@ work_row-requires c =
     let start = row_length * a.number in
     let live = (reached turn).live (inside turn) in record {
       rows_ready = (
-        block-ready a.walk.now.area.now p.planned.0 start l.self.rows (reached turn).kept l.gate (inside turn) (reached turn).block live,
+        block-ready a.area.now p.planned.0 start l.self.rows (reached turn).kept l.gate (inside turn) (reached turn).block live,
         omega arith,
         omega (arith, p.planned.0.figures.flip_fits _ (inside turn)),
       );
       right_here = (
-        block-right a.walk.now.area.now p.planned.0 start l.self.rows (reached turn).kept l.gate (inside turn) (reached turn).block live a.words.now p.values_from.0,
+        block-right a.area.now p.planned.0 start l.self.rows (reached turn).kept l.gate (inside turn) (reached turn).block live a.words.now p.values_from.0,
         (reached turn).kept.long,
       );
     }
@@ -98,12 +98,12 @@ work_row-requires c =
 pub overflow_add-gate : goal.overflow_add-gate
 overflow_add-gate c = omega (arith, room (goal.at.overflow_add-gate c).In-loop-gate)
 
-pub offset_bounds-walk-gate : goal.offset_bounds-walk-gate
-offset_bounds-walk-gate c = omega (arith, room (goal.at.offset_bounds-walk-gate c).In-loop-gate)
+pub offset_bounds-next-gate : goal.offset_bounds-next-gate
+offset_bounds-next-gate c = omega (arith, room (goal.at.offset_bounds-next-gate c).In-loop-gate)
 
-pub bounds-walk-gate : goal.bounds-walk-gate
-bounds-walk-gate c =
-    omega (arith, inside (goal.at.bounds-walk-gate c).In-loop-gate, c.requires.planned.0.net.gates_fit, c.requires.planned.1.long)
+pub bounds-next-gate : goal.bounds-next-gate
+bounds-next-gate c =
+    omega (arith, inside (goal.at.bounds-next-gate c).In-loop-gate, c.requires.planned.0.net.gates_fit, c.requires.planned.1.long)
 
 pub loop-gate-smaller : goal.loop-gate-smaller
 loop-gate-smaller c = omega (arith, (after (goal.at.loop-gate-smaller c).In-loop-gate).from)
@@ -119,15 +119,15 @@ loop-gate-preserved c =
       | then-not-same_row w ↦
           let stored = w.work_row.ensures.row_stored in
           rw w.self-is
-          (reach (goal.at.loop-gate-preserved c).Start _ _ _ (after turn) (kept-live a.walk.now.area.now p.planned.0 start l.self.rows _ l.gate _ (reached turn).kept stored w.work_row.ensures.rows_len)
-          (block-live a.walk.now.area.now p.planned.0 start l.self.rows (reached turn).kept l.gate (inside turn) (reached turn).block ((reached turn).live (inside turn))
+          (reach (goal.at.loop-gate-preserved c).Start _ _ _ (after turn) (kept-live a.area.now p.planned.0 start l.self.rows _ l.gate _ (reached turn).kept stored w.work_row.ensures.rows_len)
+          (block-live a.area.now p.planned.0 start l.self.rows (reached turn).kept l.gate (inside turn) (reached turn).block ((reached turn).live (inside turn))
           a.words.now p.values_from.0 _ stored)
-          (held-live a.walk.now.area.now a.walk.now.unseen.now l.self.rows _ a.self.now.number a.number l.gate _ stored (reached turn).rest))
+          (held-live a.area.now a.unseen.now l.self.rows _ a.self.now.number a.number l.gate _ stored (reached turn).rest))
       | else-not-same_row w ↦
           let same = eqb-true _ _ (sym (rw (place turn) at c.same_row.ensures) ∙ w.if-not-same_row.false) in
           rw w.self-is
           (reach (goal.at.loop-gate-preserved c).Start _ _ _ (after turn) (reached turn).kept
-          (block_held a.walk.now.area.now p.planned.0 start l.self.rows (reached turn).kept l.gate (inside turn) (reached turn).block a.walk.now.unseen.now a.self.now.number a.number
+          (block_held a.area.now p.planned.0 start l.self.rows (reached turn).kept l.gate (inside turn) (reached turn).block a.unseen.now a.self.now.number a.number
           refl
           (reached turn).rest
           same)
@@ -138,9 +138,9 @@ pub returns : goal.returns
 returns c =
     let at-gates = c.gates-count in
     let l = c.loop-gate in
-    let a = c.args.walk.now in
+    let a = c.args in
     let p = c.requires.planned in
-    let end : l.gate ≡ gates c.args.walk.now.area.now = omega (arith, at-gates.ensures, l.invariant.few) in record {
+    let end : l.gate ≡ gates c.args.area.now = omega (arith, at-gates.ensures, l.invariant.few) in record {
       block = rw end at l.invariant.block;
       rows_kept_2 = (
         l.invariant.kept,

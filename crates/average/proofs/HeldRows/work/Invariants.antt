@@ -15,7 +15,7 @@ pub record Reached (ws unseen rows : List ℕ) (held number gate : ℕ) : Type 0
   pub rest : HeldFrom ws unseen rows held number gate
 
 abbrev pub invariant-loop-gate : goal.invariant-loop-gate
-invariant-loop-gate l = Reached l.walk.area.now l.walk.unseen.now l.self.rows l.held l.number l.gate
+invariant-loop-gate l = Reached l.area l.unseen l.self.rows l.held l.number l.gate
 
 abbrev pub decreases-loop-gate : goal.decreases-loop-gate
 decreases-loop-gate l = l.count - l.gate

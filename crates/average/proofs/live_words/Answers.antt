@@ -5,8 +5,8 @@ use native.Mathlib.Omega.{arith}
 use Rattle.area.specs.Layout.{gates}
 use Rattle.signals.proofs.Held.{first-held}
 use Rattle.average.proofs.BlockWords.{words-next, words-live}
-use Rattle.average.proofs.Walk.live_words.Goals.{In-loop-gate}
-use Rattle.average.proofs.Walk.live_words.Goals as goal
+use Rattle.average.proofs.live_words.Goals.{In-loop-gate}
+use Rattle.average.proofs.live_words.Goals as goal
 
 pub gates-count-requires : goal.gates-count-requires
 gates-count-requires c =
@@ -20,8 +20,8 @@ pub write_inputs-requires : goal.write_inputs-requires
 write_inputs-requires c =
     (c.requires.2, omega (arith, c.inputs.ensures, c.requires.0.inputs_fit), refl)
 
-pub bounds-self-0 : goal.bounds-self-0
-bounds-self-0 c =
+pub bounds-next-0 : goal.bounds-next-0
+bounds-next-0 c =
     omega (arith, c.requires.1.long)
 
 pub loop-gate-init : goal.loop-gate-init
@@ -31,9 +31,9 @@ loop-gate-init c =
     let found = c.requires.1.each 0 (omega arith) (omega arith) in (
       found.inside,
       found.live,
-      words-next a.self.now.area.now a.patterns.now c.requires.0 _ 0 _ found
+      words-next a.area.now a.patterns.now c.requires.0 _ 0 _ found
           (record {
-            input_words = first-held a.self.now.area.now a.patterns.now c.requires.0 c.write_inputs.new.words
+            input_words = first-held a.area.now a.patterns.now c.requires.0 c.write_inputs.new.words
                 (rw at-inputs.ensures at c.write_inputs.ensures);
             gate_words = λ j none live. absurd (omega arith);
           }),
@@ -41,7 +41,7 @@ loop-gate-init c =
 
 -- a turn's gate
 module _ (c : In-loop-gate) where
-  inside : c.loop-gate.gate < gates c.args.self.now.area.now
+  inside : c.loop-gate.gate < gates c.args.area.now
   inside = omega (arith, c.gates-count.ensures)
 
   room : c.loop-gate.gate + 1 ≤ 1_024
@@ -54,12 +54,12 @@ work_word-requires c =
 pub overflow_add-gate : goal.overflow_add-gate
 overflow_add-gate c = omega (arith, room (goal.at.overflow_add-gate c).In-loop-gate)
 
-pub offset_bounds-self-gate : goal.offset_bounds-self-gate
-offset_bounds-self-gate c = omega (arith, room (goal.at.offset_bounds-self-gate c).In-loop-gate)
+pub offset_bounds-next-gate : goal.offset_bounds-next-gate
+offset_bounds-next-gate c = omega (arith, room (goal.at.offset_bounds-next-gate c).In-loop-gate)
 
-pub bounds-self-gate : goal.bounds-self-gate
-bounds-self-gate c =
-    omega (arith, room (goal.at.bounds-self-gate c).In-loop-gate, c.requires.1.long)
+pub bounds-next-gate : goal.bounds-next-gate
+bounds-next-gate c =
+    omega (arith, room (goal.at.bounds-next-gate c).In-loop-gate, c.requires.1.long)
 
 pub loop-gate-smaller : goal.loop-gate-smaller
 loop-gate-smaller c =
@@ -76,8 +76,8 @@ loop-gate-preserved c =
     let found = p.1.each (l.gate + 1) (omega arith) (omega (arith, inside turn)) in (
       found.inside,
       found.live,
-      words-next a.self.now.area.now a.patterns.now p.0 _ _ _ found
-          (words-live a.self.now.area.now a.patterns.now p.0 l.words l.gate (inside turn) l.invariant.2 _ (l.invariant.1 (inside turn))
+      words-next a.area.now a.patterns.now p.0 _ _ _ found
+          (words-live a.area.now a.patterns.now p.0 l.words l.gate (inside turn) l.invariant.2 _ (l.invariant.1 (inside turn))
           c.work_word.ensures),
     )
 
@@ -85,5 +85,5 @@ pub returns : goal.returns
 returns c =
     let at-gates = c.gates-count in
     let l = c.loop-gate in
-    let end : l.gate ≡ gates c.args.self.now.area.now = omega (arith, at-gates.ensures, l.invariant.0) in
+    let end : l.gate ≡ gates c.args.area.now = omega (arith, at-gates.ensures, l.invariant.0) in
     rw end at l.invariant.2
