@@ -17,56 +17,23 @@ pub fn word(text: &[u8], start: usize) -> &[u8]
 pub fn same(a: &[u8], b: &[u8]) -> bool
     ensures { result ≡ same a.now b.now }
 {
-    if a.len() != b.len() {
-        return false;
-    }
-    let mut i = 0;
-    while i < a.len() {
-        if a[i] != b[i] {
-            return false;
-        }
-        i += 1;
-    }
-    true
+    a == b
 }
 
+#[tactic(auto, unfolding(crate::specs::Names::name_byte))]
 fn name_byte(b: u8) -> bool
     ensures { result ≡ name_byte b }
 {
-    if b < 33 {
-        return false;
-    }
-    if 126 < b {
-        return false;
-    }
-    if b == 35 {
-        return false;
-    }
-    if b == 92 {
-        return false;
-    }
-    true
+    b.is_ascii_graphic() && b != b'#' && b != b'\\'
 }
 
 pub const LONGEST_NAME: usize = 32;
 
+#[tactic(auto, unfolding(crate::specs::Names::is_name))]
 pub fn is_name(w: &[u8]) -> bool
     ensures { result ≡ is_name w.now }
 {
-    if w.len() < 1 {
-        return false;
-    }
-    if LONGEST_NAME < w.len() {
-        return false;
-    }
-    let mut i = 0;
-    while i < w.len() {
-        if !name_byte(w[i]) {
-            return false;
-        }
-        i += 1;
-    }
-    true
+    !w.is_empty() && w.len() <= LONGEST_NAME && w.iter().all(|b| name_byte(*b))
 }
 
 // An entry of a table of places.
@@ -74,7 +41,7 @@ pub fn entry(table: &[u16], k: usize) -> usize
     requires { k < length table.now }
     ensures { result ≡ get_or table.now k 0 }
 {
-    table[k] as usize
+    usize::from(table[k])
 }
 
 // An entry of a table of lines, as a place.
@@ -82,7 +49,7 @@ pub fn line(lines: &[u16], k: usize) -> u32
     requires { k < length lines.now }
     ensures { result ≡ get_or lines.now k 0 }
 {
-    lines[k] as u32
+    u32::from(lines[k])
 }
 
 // A look at the bytes of a word, from the last of w to its first and then past it, before the word's end is searched: where the answer is false it is not w.
@@ -93,18 +60,13 @@ fn may_be(text: &[u8], start: usize, w: &[u8]) -> bool
     if text.len() - start < w.len() {
         return false;
     }
-    let mut left = w.len();
-    while left > 0 {
-        left -= 1;
-        if text[start + left] != w[left] {
+    for i in (0..w.len()).rev() {
+        if text[start + i] != w[i] {
             return false;
         }
     }
     let end = start + w.len();
-    if end == text.len() {
-        return true;
-    }
-    !name_byte(text[end])
+    end == text.len() || !name_byte(text[end])
 }
 
 // Name k of a table is w.
@@ -113,10 +75,7 @@ pub fn is_at(text: &[u8], starts: &[u16], k: usize, w: &[u8]) -> bool
     ensures { result ≡ same (name_at text.now starts.now k) w.now }
 {
     let start = entry(starts, k);
-    if !may_be(text, start, w) {
-        return false;
-    }
-    same(word(text, start), w)
+    may_be(text, start, w) && same(word(text, start), w)
 }
 
 // How many of the `many` names stand before the first that equals w; `many` if none does.
@@ -124,12 +83,10 @@ pub fn find(text: &[u8], starts: &[u16], many: usize, w: &[u8]) -> usize
     requires { (many ≤ length starts.now) × ((k : ℕ) → k < many → get_or starts.now k 0 < length text.now) }
     ensures { result ≡ before text.now starts.now w.now 0 many }
 {
-    let mut k = 0;
-    while k < many {
+    for k in 0..many {
         if is_at(text, starts, k, w) {
             return k;
         }
-        k += 1;
     }
     many
 }
