@@ -83,7 +83,12 @@ fn place_model(
 {
     let mut place = [0u16; area::MOST_GATES];
     let mut order = [0u16; area::MOST_GATES];
-    match loops::order_gates(&mut place, &mut order, pins, counts, inputs, gates, numbers) {
+    let sources = placing::Sources {
+        inputs,
+        pins,
+        counts,
+    };
+    match loops::order_gates(&mut place, &mut order, sources, gates, numbers) {
         Judgement::Fine => {
             write_fitting(
                 text, starts, lines, n, heads, pins, counts, outs, numbers, &place, &order, inputs,
