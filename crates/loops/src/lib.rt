@@ -4,7 +4,7 @@
 ghost use Rattle.std.specs.Prelude.{◌≡◌, [], ◌∷◌, ℕ, ◌+◌, ◌-◌, ◌*◌, ◌<◌, ◌≤◌, length, get_or};
 ghost use Rattle.area.specs.Layout.{most_pins, most_inputs, most_gates};
 ghost use Rattle.refusal.specs.declared.Judgement.TheVariants.{Fine};
-ghost use Rattle.placing.specs.Placing.{entries, sources_of, Tables, Reads, Kept, Placed, loop_fault};
+ghost use Rattle.placing.specs.Placing.{entries, lent_sources, LentTables, Reads, Kept, Placed, loop_fault};
 ghost use Rattle.loops.specs.Marks.{Room, Marked, Clear, Answers};
 
 use placing::Sources;
@@ -70,8 +70,8 @@ fn mark_gate(
     sources: Sources,
     gate: usize,
 ) -> usize
-    requires { Room marks.old pile.old top × (gate < most_gates) × Tables sources.inputs sources.pins.now sources.counts.now }
-    ensures { Marked sources.entry.inputs (sources_of sources.entry.pins.now sources.entry.counts.now gate) marks.old pile.old top
+    requires { Room marks.old pile.old top × (gate < most_gates) × LentTables sources }
+    ensures { Marked sources.entry.inputs (lent_sources sources.entry gate) marks.old pile.old top
         marks.new pile.new result }
 {
     mark(
@@ -86,10 +86,10 @@ fn mark_gate(
 
 // Whether a gate depends on itself. Those with an entry in `clear` are known not to, so no way back leads through them.
 fn on_itself(clear: &[u16; area::MOST_GATES], sources: Sources, gates: usize, gate: usize) -> bool
-    requires gate_lt_gates { (gate < gates) × (gates ≤ most_gates) × Tables sources.inputs sources.pins.now sources.counts.now × ((j i : ℕ) → j < gates
-        → Reads (sources_of sources.pins.now sources.counts.now) sources.inputs j i → i < gates) }
-    requires clear_len { (length clear.now ≡ most_gates) × Clear (sources_of sources.pins.now sources.counts.now) sources.inputs clear.now }
-    ensures { Answers (sources_of sources.entry.pins.now sources.entry.counts.now) sources.entry.inputs gate result }
+    requires gate_lt_gates { (gate < gates) × (gates ≤ most_gates) × LentTables sources × ((j i : ℕ) → j < gates
+        → Reads (lent_sources sources) sources.inputs j i → i < gates) }
+    requires clear_len { (length clear.now ≡ most_gates) × Clear (lent_sources sources) sources.inputs clear.now }
+    ensures { Answers (lent_sources sources.entry) sources.entry.inputs gate result }
 {
     if clear[gate] != 0 {
         return false;
@@ -112,10 +112,10 @@ fn first_loop(
     gates: usize,
     numbers: &[u16],
 ) -> Judgement
-    requires gates_le_most_gates { (gates ≤ most_gates) × (sources.inputs + gates ≤ length numbers.now) × Tables sources.inputs sources.pins.now sources.counts.now }
-    requires by_index { (j i : ℕ) → j < gates → Reads (sources_of sources.pins.now sources.counts.now) sources.inputs j i → i < gates }
-    requires place_len { (length place.now ≡ most_gates) × Clear (sources_of sources.pins.now sources.counts.now) sources.inputs place.now }
-    ensures { result ≡ loop_fault (sources_of sources.entry.pins.now sources.entry.counts.now) sources.entry.inputs gates (λ (j : ℕ). get_or numbers.now (sources.entry.inputs + j) 0) }
+    requires gates_le_most_gates { (gates ≤ most_gates) × (sources.inputs + gates ≤ length numbers.now) × LentTables sources }
+    requires by_index { (j i : ℕ) → j < gates → Reads (lent_sources sources) sources.inputs j i → i < gates }
+    requires place_len { (length place.now ≡ most_gates) × Clear (lent_sources sources) sources.inputs place.now }
+    ensures { result ≡ loop_fault (lent_sources sources.entry) sources.entry.inputs gates (λ (j : ℕ). get_or numbers.now (sources.entry.inputs + j) 0) }
 {
     let mut clear = *place;
     let mut j = 0;
@@ -140,11 +140,11 @@ pub fn order_gates(
     gates: usize,
     numbers: &[u16],
 ) -> Judgement
-    requires gates_le_most_gates { (gates ≤ most_gates) × (sources.inputs + gates ≤ length numbers.now) × Tables sources.inputs sources.pins.now sources.counts.now }
-    requires by_index { (j i : ℕ) → j < gates → Reads (sources_of sources.pins.now sources.counts.now) sources.inputs j i → i < gates }
-    requires kept { Kept (sources_of sources.pins.now sources.counts.now) sources.inputs gates 0 place.old order.old }
-    ensures value { result ≡ loop_fault (sources_of sources.entry.pins.now sources.entry.counts.now) sources.entry.inputs gates (λ (j : ℕ). get_or numbers.now (sources.entry.inputs + j) 0) }
-    ensures placed { result ≡ Fine → Placed (sources_of sources.entry.pins.now sources.entry.counts.now) sources.entry.inputs gates place.old gates place.new
+    requires gates_le_most_gates { (gates ≤ most_gates) × (sources.inputs + gates ≤ length numbers.now) × LentTables sources }
+    requires by_index { (j i : ℕ) → j < gates → Reads (lent_sources sources) sources.inputs j i → i < gates }
+    requires kept { Kept (lent_sources sources) sources.inputs gates 0 place.old order.old }
+    ensures value { result ≡ loop_fault (lent_sources sources.entry) sources.entry.inputs gates (λ (j : ℕ). get_or numbers.now (sources.entry.inputs + j) 0) }
+    ensures placed { result ≡ Fine → Placed (lent_sources sources.entry) sources.entry.inputs gates place.old gates place.new
         order.new }
 {
     let placed = placing::place_all(place, order, sources, gates);

@@ -3,7 +3,7 @@
 
 ghost use Rattle.std.specs.Prelude.{◌≡◌, ℕ, ◌+◌, ◌-◌, ◌*◌, ◌<◌, ◌≤◌, length, get_or, MatchOption};
 ghost use Rattle.area.specs.Layout.{most_pins, most_inputs, most_gates};
-ghost use Rattle.placing.specs.Placing.{placed_source, all_placed, ready, passed, entries, sources_of, left, Kept, Tables, Placed};
+ghost use Rattle.placing.specs.Placing.{placed_source, all_placed, ready, passed, entries, lent_sources, left, Kept, LentTables, Placed};
 
 // Entries of the table of sources: as many for each gate as it may have.
 pub const PIN_ENTRIES: usize = area::MOST_PINS * area::MOST_GATES;
@@ -40,8 +40,8 @@ impl<'a> Sources<'a> {
     }
 
     fn ready(self, place: &[u16; area::MOST_GATES], gate: usize) -> bool
-        requires { (gate < most_gates) × (length place.now ≡ most_gates) × Tables self.inputs self.pins.now self.counts.now }
-        ensures { result ≡ ready (sources_of self.entry.pins.now self.entry.counts.now) self.entry.inputs place.now gate }
+        requires { (gate < most_gates) × (length place.now ≡ most_gates) × LentTables self }
+        ensures { result ≡ ready (lent_sources self.entry) self.entry.inputs place.now gate }
     {
         place[gate] == 0
             && self.all_placed(
@@ -53,10 +53,10 @@ impl<'a> Sources<'a> {
 
     // The earliest gate that is ready.
     fn next(self, place: &[u16; area::MOST_GATES], gates: usize) -> Option<usize>
-        requires { (gates ≤ most_gates) × (length place.now ≡ most_gates) × Tables self.inputs self.pins.now self.counts.now }
+        requires { (gates ≤ most_gates) × (length place.now ≡ most_gates) × LentTables self }
         ensures { MatchOption result
-            (passed (sources_of self.entry.pins.now self.entry.counts.now) self.entry.inputs place.now 0 gates ≡ gates)
-            (λ gate. (gate ≡ passed (sources_of self.entry.pins.now self.entry.counts.now) self.entry.inputs place.now 0 gates) × (gate < gates)) }
+            (passed (lent_sources self.entry) self.entry.inputs place.now 0 gates ≡ gates)
+            (λ gate. (gate ≡ passed (lent_sources self.entry) self.entry.inputs place.now 0 gates) × (gate < gates)) }
     {
         for gate in 0..gates {
             if self.ready(place, gate) {
@@ -74,9 +74,9 @@ pub fn place_all(
     sources: Sources,
     gates: usize,
 ) -> usize
-    requires { (gates ≤ most_gates) × Tables sources.inputs sources.pins.now sources.counts.now
-        × Kept (sources_of sources.pins.now sources.counts.now) sources.inputs gates 0 place.old order.old }
-    ensures { Placed (sources_of sources.entry.pins.now sources.entry.counts.now) sources.entry.inputs gates place.old result place.new order.new }
+    requires { (gates ≤ most_gates) × LentTables sources
+        × Kept (lent_sources sources) sources.inputs gates 0 place.old order.old }
+    ensures { Placed (lent_sources sources.entry) sources.entry.inputs gates place.old result place.new order.new }
 {
     let mut q = 0;
     while let Some(gate) = sources.next(place, gates) {
