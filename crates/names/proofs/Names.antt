@@ -33,7 +33,7 @@ word-short (b ∷ s) = go (in_word (after b (get_or s 0 0))) refl (word-short s)
     go false e ih = rw e (omega arith)
 
 -- both tests as the library says them
-and-is : (q x y : Bool) → x ≡ y → cond q x false ≡ (q && y)
+pub and-is : (q x y : Bool) → x ≡ y → cond q x false ≡ (q && y)
 and-is true x y e = e
 and-is false x y e = refl
 

@@ -3,7 +3,32 @@
 
 ghost use Rattle.std.specs.Prelude.{◌≡◌, false, ℕ, ◌<◌, ◌≤◌, length, get_or, drop};
 ghost use Rattle.texts.specs.Words.{word_of};
-ghost use Rattle.names.specs.Names.{same, name_byte, is_name, name_at, before};
+ghost use Rattle.names.specs.Names.{same, name_byte, is_name, before, HasWord, name_of};
+
+// Words of a text: where each starts, the number of its line, and how many of them there are.
+#[derive(Clone, Copy)]
+pub struct Words<'a> {
+    pub text: &'a [u8],
+    pub starts: &'a [u16],
+    pub lines: &'a [u16],
+    pub count: usize,
+}
+
+impl<'a> Words<'a> {
+    pub fn word(&self, k: usize) -> &'a [u8]
+        requires { HasWord self.now k }
+        ensures { result.now ≡ name_of self.now k }
+    {
+        word(self.text, entry(self.starts, k))
+    }
+
+    pub fn line(&self, k: usize) -> u32
+        requires { k < length self.now.lines.now }
+        ensures { result ≡ get_or self.now.lines.now k 0 }
+    {
+        u32::from(self.lines[k])
+    }
+}
 
 // The word that starts at a place.
 pub fn word(text: &[u8], start: usize) -> &[u8]
@@ -69,24 +94,23 @@ fn may_be(text: &[u8], start: usize, w: &[u8]) -> bool
     end == text.len() || !name_byte(text[end])
 }
 
-// Name k of a table is w.
-pub fn is_at(text: &[u8], starts: &[u16], k: usize, w: &[u8]) -> bool
-    requires { (k < length starts.now) × (get_or starts.now k 0 < length text.now) }
-    ensures { result ≡ same (name_at text.now starts.now k) w.now }
+// Name k is w.
+fn is_at(names: &Words, k: usize, w: &[u8]) -> bool
+    requires { HasWord names.now k }
+    ensures { result ≡ same (name_of names.now k) w.now }
 {
-    let start = entry(starts, k);
-    may_be(text, start, w) && same(word(text, start), w)
+    may_be(names.text, entry(names.starts, k), w) && same(names.word(k), w)
 }
 
-// How many of the `many` names stand before the first that equals w; `many` if none does.
-pub fn find(text: &[u8], starts: &[u16], many: usize, w: &[u8]) -> usize
-    requires { (many ≤ length starts.now) × ((k : ℕ) → k < many → get_or starts.now k 0 < length text.now) }
-    ensures { result ≡ before text.now starts.now w.now 0 many }
+// How many of the names stand before the first that equals w; all of them if none does.
+pub fn find(names: &Words, w: &[u8]) -> usize
+    requires { (names.now.count ≤ length names.now.starts.now) × ((k : ℕ) → k < names.now.count → get_or names.now.starts.now k 0 < length names.now.text.now) }
+    ensures { result ≡ before names.now.text.now names.now.starts.now w.now 0 names.now.count }
 {
-    for k in 0..many {
-        if is_at(text, starts, k, w) {
+    for k in 0..names.count {
+        if is_at(names, k, w) {
             return k;
         }
     }
-    many
+    names.count
 }

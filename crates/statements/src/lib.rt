@@ -1,13 +1,14 @@
 // The statements of a text: what a line is, and whether it fits (refusal 18).
 #![tactic(auto)]
 
-ghost use Rattle.std.specs.Prelude.{◌≡◌, ◌+◌, ◌-◌, ◌<◌, ◌≤◌, length, get_or, drop};
-ghost use Rattle.statements.specs.Lines.{Places, bytes_from, alike, lines_of};
+ghost use Rattle.std.specs.Prelude.{◌≡◌, ◌+◌, ◌-◌, ◌<◌, ◌≤◌, length, get_or};
+ghost use Rattle.statements.specs.Lines.{PlacesTo, Lent, bytes_of, alike, lines_of};
 ghost use Rattle.statements.specs.Fit.{keyword_of, all_names, value_of, row_byte, is_row, after_model, after_list, after_gate, after_end};
 ghost use Rattle.statements.specs.Fit.{after_value, after_line, after_first, after_heading, after_cover, fit, is_misfit, is_ended, fault};
-ghost use Rattle.texts.specs.Words.{held, word_of};
-ghost use Rattle.names.specs.Names.{is_name};
+ghost use Rattle.texts.specs.Words.{held};
+ghost use Rattle.names.specs.Names.{HasWord, name_of, is_name};
 
+use names::Words;
 use refusal::Judgement;
 
 #[derive(Clone, Copy)]
@@ -51,45 +52,41 @@ pub fn keyword_of(w: &[u8]) -> Keyword
     Keyword::Other
 }
 
-// Word k of a table is a name.
-fn name_at(text: &[u8], starts: &[u16], k: usize) -> bool
-    requires { (k < length starts.now) × (get_or starts.now k 0 < length text.now) }
-    ensures { result ≡ is_name (word_of (drop (get_or starts.now k 0) text.now)) }
+// Word k is a name.
+fn name_at(words: &Words, k: usize) -> bool
+    requires { HasWord words.now k }
+    ensures { result ≡ is_name (name_of words.now k) }
 {
-    names::is_name(names::word(text, names::entry(starts, k)))
+    names::is_name(words.word(k))
 }
 
 // The `many` words from word `from` on are names.
-fn all_names(text: &[u8], starts: &[u16], from: usize, many: usize) -> bool
-    requires { Places text.now starts.now (from + many) }
-    ensures { result ≡ all_names (bytes_from text.now starts.now from many) }
+fn all_names(words: &Words, from: usize, many: usize) -> bool
+    requires { PlacesTo words.now (from + many) }
+    ensures { result ≡ all_names (bytes_of words.now from many) }
 {
-    let mut i = 0;
-    while i < many {
-        if !name_at(text, starts, from + i) {
+    for k in from..from + many {
+        if !name_at(words, k) {
             return false;
         }
-        i += 1;
     }
     true
 }
 
 // How many words after word k stand in its line.
-pub fn line_rest(lines: &[u16], k: usize, n: usize) -> usize
-    requires { (k < n) × (n ≤ length lines.now) }
-    ensures { result ≡ alike lines.now (get_or lines.now k 0) (k + 1) (n - (k + 1)) }
+pub fn line_rest(words: &Words, k: usize) -> usize
+    requires { (k < words.now.count) × (words.now.count ≤ length words.now.lines.now) }
+    ensures { result ≡ alike words.now.lines.now (get_or words.now.lines.now k 0) (k + 1) (words.now.count - (k + 1)) }
 {
-    let line = lines[k];
-    let mut i = k + 1;
-    while i < n {
-        if lines[i] != line {
+    for i in k + 1..words.count {
+        if words.lines[i] != words.lines[k] {
             return i - (k + 1);
         }
-        i += 1;
     }
-    i - (k + 1)
+    words.count - (k + 1)
 }
 
+// 2 is no Option: specs/Fit.antt `value_of` and `after_value`, and covers/specs/Cover.antt `ending_of`, say it so.
 fn value_of(w: &[u8]) -> usize
     ensures { result ≡ value_of w.now }
 {
@@ -102,71 +99,52 @@ fn value_of(w: &[u8]) -> usize
     2
 }
 
-pub fn value_at(text: &[u8], starts: &[u16], k: usize) -> usize
-    requires { (k < length starts.now) × (get_or starts.now k 0 < length text.now) }
-    ensures { result ≡ value_of (word_of (drop (get_or starts.now k 0) text.now)) }
+pub fn value_at(words: &Words, k: usize) -> usize
+    requires { HasWord words.now k }
+    ensures { result ≡ value_of (name_of words.now k) }
 {
-    value_of(names::word(text, names::entry(starts, k)))
+    value_of(words.word(k))
 }
 
+#[tactic(auto, unfolding(crate::specs::Fit::row_byte))]
 fn row_byte(b: u8) -> bool
     ensures { result ≡ row_byte b }
 {
-    if b == 48 {
-        return true;
-    }
-    if b == 49 {
-        return true;
-    }
-    if b == 45 {
-        return true;
-    }
-    false
+    matches!(b, b'0' | b'1' | b'-')
 }
 
 fn is_row(w: &[u8], width: usize) -> bool
     ensures { result ≡ is_row width w.now }
 {
-    if w.len() != width {
-        return false;
-    }
-    let mut i = 0;
-    while i < w.len() {
-        if !row_byte(w[i]) {
-            return false;
-        }
-        i += 1;
-    }
-    true
+    w.len() == width && w.iter().all(|b| row_byte(*b))
 }
 
-fn row_at(text: &[u8], starts: &[u16], k: usize, width: usize) -> bool
-    requires { (k < length starts.now) × (get_or starts.now k 0 < length text.now) }
-    ensures { result ≡ is_row width (word_of (drop (get_or starts.now k 0) text.now)) }
+fn row_at(words: &Words, k: usize, width: usize) -> bool
+    requires { HasWord words.now k }
+    ensures { result ≡ is_row width (name_of words.now k) }
 {
-    is_row(names::word(text, names::entry(starts, k)), width)
+    is_row(words.word(k), width)
 }
 
 // What follows each kind of line, whose words after the keyword are `many` from `from` on.
-fn after_model(text: &[u8], starts: &[u16], from: usize, many: usize) -> Phase
-    requires { Places text.now starts.now (from + many) }
-    ensures { result ≡ after_model (bytes_from text.now starts.now from many) }
+#[tactic(auto, unfolding(crate::specs::Fit::after_model))]
+fn after_model(words: &Words, from: usize, many: usize) -> Phase
+    requires { PlacesTo words.now (from + many) }
+    ensures { result ≡ after_model (bytes_of words.now from many) }
 {
-    if many != 1 {
-        return Phase::Misfit;
-    }
-    if all_names(text, starts, from, many) {
+    if many == 1 && all_names(words, from, many) {
         Phase::Heading
     } else {
         Phase::Misfit
     }
 }
 
-fn after_list(text: &[u8], starts: &[u16], from: usize, many: usize) -> Phase
-    requires { Places text.now starts.now (from + many) }
-    ensures { result ≡ after_list (bytes_from text.now starts.now from many) }
+#[tactic(auto, unfolding(crate::specs::Fit::after_list))]
+fn after_list(words: &Words, from: usize, many: usize) -> Phase
+    requires { PlacesTo words.now (from + many) }
+    ensures { result ≡ after_list (bytes_of words.now from many) }
 {
-    if all_names(text, starts, from, many) {
+    if all_names(words, from, many) {
         Phase::Heading
     } else {
         Phase::Misfit
@@ -176,17 +154,12 @@ fn after_list(text: &[u8], starts: &[u16], from: usize, many: usize) -> Phase
 // A gate's line: its sources, and its own name.
 const MOST_NAMES: usize = area::MOST_PINS + 1;
 
-fn after_gate(text: &[u8], starts: &[u16], from: usize, many: usize) -> Phase
-    requires { Places text.now starts.now (from + many) }
-    ensures { result ≡ after_gate (bytes_from text.now starts.now from many) }
+#[tactic(auto, unfolding(crate::specs::Fit::after_gate))]
+fn after_gate(words: &Words, from: usize, many: usize) -> Phase
+    requires { PlacesTo words.now (from + many) }
+    ensures { result ≡ after_gate (bytes_of words.now from many) }
 {
-    if many < 1 {
-        return Phase::Misfit;
-    }
-    if MOST_NAMES < many {
-        return Phase::Misfit;
-    }
-    if all_names(text, starts, from, many) {
+    if 1 <= many && many <= MOST_NAMES && all_names(words, from, many) {
         Phase::Cover {
             width: many - 1,
             ending: 2,
@@ -196,6 +169,7 @@ fn after_gate(text: &[u8], starts: &[u16], from: usize, many: usize) -> Phase
     }
 }
 
+#[tactic(auto, unfolding(crate::specs::Fit::after_end))]
 fn after_end(many: usize) -> Phase
     ensures { result ≡ after_end many }
 {
@@ -206,16 +180,11 @@ fn after_end(many: usize) -> Phase
     }
 }
 
+#[tactic(auto, unfolding(crate::specs::Fit::after_value))]
 fn after_value(width: usize, ending: usize, x: usize) -> Phase
     ensures { result ≡ after_value width ending x }
 {
-    if x == 2 {
-        return Phase::Misfit;
-    }
-    if ending == 2 {
-        return Phase::Cover { width, ending: x };
-    }
-    if ending == x {
+    if x != 2 && (ending == 2 || ending == x) {
         Phase::Cover { width, ending: x }
     } else {
         Phase::Misfit
@@ -223,141 +192,105 @@ fn after_value(width: usize, ending: usize, x: usize) -> Phase
 }
 
 // A cover line of rest + 1 words from word k on.
-fn after_line(
-    text: &[u8],
-    starts: &[u16],
-    width: usize,
-    ending: usize,
-    k: usize,
-    rest: usize,
-) -> Phase
-    requires { Places text.now starts.now (k + (rest + 1)) }
-    ensures { result ≡ after_line width ending (bytes_from text.now starts.now k (rest + 1)) }
+fn after_line(words: &Words, width: usize, ending: usize, k: usize, rest: usize) -> Phase
+    requires { PlacesTo words.now (k + (rest + 1)) }
+    ensures { result ≡ after_line width ending (bytes_of words.now k (rest + 1)) }
 {
     if width == 0 {
         if rest != 0 {
             return Phase::Misfit;
         }
-        return after_value(width, ending, value_at(text, starts, k));
+        return after_value(width, ending, value_at(words, k));
     }
     if rest != 1 {
         return Phase::Misfit;
     }
-    if row_at(text, starts, k, width) {
-        return after_value(width, ending, value_at(text, starts, k + 1));
+    if row_at(words, k, width) {
+        return after_value(width, ending, value_at(words, k + 1));
     }
     Phase::Misfit
 }
 
-fn after_first(text: &[u8], starts: &[u16], key: Keyword, from: usize, many: usize) -> Phase
-    requires { Places text.now starts.now (from + many) }
-    ensures { result ≡ after_first key (bytes_from text.now starts.now from many) }
+fn after_first(words: &Words, key: Keyword, from: usize, many: usize) -> Phase
+    requires { PlacesTo words.now (from + many) }
+    ensures { result ≡ after_first key (bytes_of words.now from many) }
 {
     match key {
-        Keyword::Model => after_model(text, starts, from, many),
-        Keyword::Inputs => Phase::Misfit,
-        Keyword::Outputs => Phase::Misfit,
-        Keyword::Names => Phase::Misfit,
-        Keyword::End => Phase::Misfit,
-        Keyword::Other => Phase::Misfit,
+        Keyword::Model => after_model(words, from, many),
+        _ => Phase::Misfit,
     }
 }
 
-fn after_heading(text: &[u8], starts: &[u16], key: Keyword, from: usize, many: usize) -> Phase
-    requires { Places text.now starts.now (from + many) }
-    ensures { result ≡ after_heading key (bytes_from text.now starts.now from many) }
+fn after_heading(words: &Words, key: Keyword, from: usize, many: usize) -> Phase
+    requires { PlacesTo words.now (from + many) }
+    ensures { result ≡ after_heading key (bytes_of words.now from many) }
 {
     match key {
-        Keyword::Model => Phase::Misfit,
-        Keyword::Inputs => after_list(text, starts, from, many),
-        Keyword::Outputs => after_list(text, starts, from, many),
-        Keyword::Names => after_gate(text, starts, from, many),
+        Keyword::Inputs | Keyword::Outputs => after_list(words, from, many),
+        Keyword::Names => after_gate(words, from, many),
         Keyword::End => after_end(many),
-        Keyword::Other => Phase::Misfit,
+        _ => Phase::Misfit,
     }
 }
 
 // A line of rest + 1 words from word k on, where a cover is open.
 fn after_cover(
-    text: &[u8],
-    starts: &[u16],
+    words: &Words,
     width: usize,
     ending: usize,
     key: Keyword,
     k: usize,
     rest: usize,
 ) -> Phase
-    requires { Places text.now starts.now (k + (rest + 1)) }
-    ensures { result ≡ after_cover width ending key (word_of (drop (get_or starts.now k 0) text.now)) (bytes_from
-        text.now starts.now (k + 1) rest) }
+    requires { PlacesTo words.now (k + (rest + 1)) }
+    ensures { result ≡ after_cover width ending key (name_of words.now k) (bytes_of words.now (k + 1) rest) }
 {
     match key {
-        Keyword::Model => Phase::Misfit,
-        Keyword::Inputs => Phase::Misfit,
-        Keyword::Outputs => Phase::Misfit,
-        Keyword::Names => after_gate(text, starts, k + 1, rest),
+        Keyword::Names => after_gate(words, k + 1, rest),
         Keyword::End => after_end(rest),
-        Keyword::Other => after_line(text, starts, width, ending, k, rest),
+        Keyword::Other => after_line(words, width, ending, k, rest),
+        _ => Phase::Misfit,
     }
 }
 
 // What may follow the line of rest + 1 words from word k on.
-fn fit(text: &[u8], starts: &[u16], phase: Phase, k: usize, rest: usize) -> Phase
-    requires { Places text.now starts.now (k + (rest + 1)) }
-    ensures { result ≡ fit phase (bytes_from text.now starts.now k (rest + 1)) }
+fn fit(words: &Words, phase: Phase, k: usize, rest: usize) -> Phase
+    requires { PlacesTo words.now (k + (rest + 1)) }
+    ensures { result ≡ fit phase (bytes_of words.now k (rest + 1)) }
 {
-    let key = keyword_of(names::word(text, names::entry(starts, k)));
+    let key = keyword_of(words.word(k));
     match phase {
-        Phase::Before => after_first(text, starts, key, k + 1, rest),
-        Phase::Heading => after_heading(text, starts, key, k + 1, rest),
-        Phase::Cover { width, ending } => after_cover(text, starts, width, ending, key, k, rest),
-        Phase::Ended => Phase::Misfit,
-        Phase::Misfit => Phase::Misfit,
+        Phase::Before => after_first(words, key, k + 1, rest),
+        Phase::Heading => after_heading(words, key, k + 1, rest),
+        Phase::Cover { width, ending } => after_cover(words, width, ending, key, k, rest),
+        _ => Phase::Misfit,
     }
 }
 
 fn is_misfit(phase: Phase) -> bool
     ensures { result ≡ is_misfit phase }
 {
-    match phase {
-        Phase::Before => false,
-        Phase::Heading => false,
-        Phase::Cover {
-            width: _,
-            ending: _,
-        } => false,
-        Phase::Ended => false,
-        Phase::Misfit => true,
-    }
+    matches!(phase, Phase::Misfit)
 }
 
 fn is_ended(phase: Phase) -> bool
     ensures { result ≡ is_ended phase }
 {
-    match phase {
-        Phase::Before => false,
-        Phase::Heading => false,
-        Phase::Cover {
-            width: _,
-            ending: _,
-        } => false,
-        Phase::Ended => true,
-        Phase::Misfit => false,
-    }
+    matches!(phase, Phase::Ended)
 }
 
-// Refusal 18 of the n words' lines: the first that does not fit; `last` where only `.end` is missing.
-pub fn fault(text: &[u8], starts: &[u16], lines: &[u16], n: usize, last: u32) -> Judgement
-    requires { Places text.now starts.now n × (n ≤ length lines.now) }
-    ensures { result ≡ fault Phase.Before (lines_of (held text.now starts.now lines.now 0 n)) last }
+// Refusal 18 of the words' lines: the first that does not fit; `last` where only `.end` is missing.
+pub fn fault(words: &Words, last: u32) -> Judgement
+    requires { Lent words.now }
+    ensures { result ≡ fault Phase.Before (lines_of (held words.now.text.now words.now.starts.now words.now.lines.now 0 words.now.count)) last }
 {
     let mut phase = Phase::Before;
     let mut k = 0;
-    while k < n {
-        let rest = line_rest(lines, k, n);
-        phase = fit(text, starts, phase, k, rest);
+    while k < words.count {
+        let rest = line_rest(words, k);
+        phase = fit(words, phase, k, rest);
         if is_misfit(phase) {
-            return Judgement::Refused(refusal::TEXT_LINE, names::line(lines, k));
+            return Judgement::Refused(refusal::TEXT_LINE, words.line(k));
         }
         k += rest + 1;
     }

@@ -11,7 +11,7 @@ use Rattle.blif.proofs.place_model.Goals as goal
 pub order_gates-requires : goal.order_gates-requires
 order_gates-requires c =
     let a = c.args in
-    let r = c.requires in record { gates_le_most_gates = (r.counted.few_gates, r.numbers_long, tables c.requires); by_index = r.gates_known; kept = none-placed (sources_of a.pins.now a.counts.now) a.inputs a.gates }
+    let r = c.requires in record { gates_le_most_gates = (r.counted.few_gates, r.numbers_long, tables c.requires); by_index = r.gates_known; kept = none-placed (sources_of a.sources.pins.now a.sources.counts.now) a.sources.inputs a.gates }
 
 pub write_fitting-requires : goal.write_fitting-requires
 write_fitting-requires c = record { resolved = c.requires; placed = c.order_gates.ensures.placed c.in-Fine.is }
@@ -19,9 +19,9 @@ write_fitting-requires c = record { resolved = c.requires; placed = c.order_gate
 pub returns-in-Fine : goal.returns-in-Fine
 returns-in-Fine c =
     let a = c.args in
-    let ls = lines_from a.text.now a.starts.now a.lines.now a.n 0 in let all = goes_on (loops_fault ls) (room_fault ls (length a.image.now)) (model_length ls) (image_over ls a.image.now) a.image.now _ _ (sym (c.order_gates.ensures.value ∙ same-loops c.requires) ∙ c.in-Fine.is) (c.write_fitting.ensures.value, c.write_fitting.ensures.image_after) in record { value = all.0; image_after = all.1 }
+    let ls = lines_from a.words.now.text.now a.words.now.starts.now a.words.now.lines.now a.words.now.count 0 in let all = goes_on (loops_fault ls) (room_fault ls (length a.image.now)) (model_length ls) (image_over ls a.image.now) a.image.now _ _ (sym (c.order_gates.ensures.value ∙ same-loops c.requires) ∙ c.in-Fine.is) (c.write_fitting.ensures.value, c.write_fitting.ensures.image_after) in record { value = all.0; image_after = all.1 }
 
 pub returns-in-Refused : goal.returns-in-Refused
 returns-in-Refused c =
     let a = c.args in
-    let ls = lines_from a.text.now a.starts.now a.lines.now a.n 0 in let all = stops (loops_fault ls) (room_fault ls (length a.image.now)) (model_length ls) _ _ (image_over ls a.image.now) a.image.now (sym (same-loops c.requires) ∙ sym c.order_gates.ensures.value ∙ c.in-Refused.is) in record { value = all.0; image_after = all.1 }
+    let ls = lines_from a.words.now.text.now a.words.now.starts.now a.words.now.lines.now a.words.now.count 0 in let all = stops (loops_fault ls) (room_fault ls (length a.image.now)) (model_length ls) _ _ (image_over ls a.image.now) a.image.now (sym (same-loops c.requires) ∙ sym c.order_gates.ensures.value ∙ c.in-Refused.is) in record { value = all.0; image_after = all.1 }

@@ -9,5 +9,5 @@ pub loop-k-preserved : goal.loop-k-preserved
 loop-k-preserved c =
     let l = c.loop-k in
     let a = c.args in
-    let later = find-later a.text.now a.starts.now a.w.now a.many l.k (search rules) (sym c.is_at.ensures ∙ c.if-is_at.false) in
+    let later = find-later a.names.now.text.now a.names.now.starts.now a.w.now a.names.now.count l.k (search rules) (sym c.is_at.ensures ∙ c.if-is_at.false) in
     omega arith
