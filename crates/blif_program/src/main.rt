@@ -5,7 +5,7 @@ use refusal::Refusal;
 use std::io::{self, Write};
 
 fn print_refused(rt: &impl Print, refusal: Refusal) -> io::Result<()> {
-    println!(rt; "refused {} {}", refusal.cause.number(), refusal.place)
+    println!(rt; "refused {refusal}")
 }
 
 // The longest text has 32,768 bytes; one byte more is read, so that a longer one is refused. The largest image has 20,624 bytes.

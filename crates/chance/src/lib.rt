@@ -44,17 +44,11 @@ const MINUS_ZERO_F32: u64 = 0x8000_0000;
 // 2^52: an f64's digits are below it, and it stands before them where the exponent is not 0.
 const LEADING_DIGIT: u64 = 0x10_0000_0000_0000;
 
-pub fn wide(x: u8) -> u32
-    ensures { (result ≡ x) × (result < 256) }
-{
-    x as u32
-}
-
 // Four bytes as one number, the lowest first.
 pub fn four_bytes(a: u8, b: u8, c: u8, d: u8) -> u32
     ensures { result ≡ four_bytes a b c d }
 {
-    wide(a) + 256 * wide(b) + 65_536 * wide(c) + 16_777_216 * wide(d)
+    u32::from_le_bytes([a, b, c, d])
 }
 
 // Whether a bit pattern is that of a number from 0 to 1. From plus zero on the patterns rise with their numbers, and infinity and
@@ -112,7 +106,7 @@ fn second_half(field: [u8; 8]) -> u32
 fn whole_field(field: [u8; 8]) -> u64
     ensures { result ≡ whole_field field }
 {
-    (first_half(field) as u64) + 4_294_967_296 * (second_half(field) as u64)
+    u64::from_le_bytes(field)
 }
 
 // Reads a flip field, whatever its bytes.

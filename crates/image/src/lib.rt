@@ -50,7 +50,7 @@ fn two_bytes(bytes: &[u8], at: usize) -> u32
     requires { at + 2 ≤ length bytes.now }
     ensures { (result ≡ u16_at bytes.now at) × (result < 65_536) }
 {
-    chance::wide(bytes[at]) + 256 * chance::wide(bytes[at + 1])
+    u32::from(u16::from_le_bytes([bytes[at], bytes[at + 1]]))
 }
 
 fn four_bytes(bytes: &[u8], at: usize) -> u32
@@ -84,16 +84,9 @@ fn eight_bytes(bytes: &[u8], at: usize) -> [u8; 8]
     requires { at + 8 ≤ length bytes.now }
     ensures { result ≡ eight_bytes bytes.now at }
 {
-    [
-        bytes[at],
-        bytes[at + 1],
-        bytes[at + 2],
-        bytes[at + 3],
-        bytes[at + 4],
-        bytes[at + 5],
-        bytes[at + 6],
-        bytes[at + 7],
-    ]
+    let mut field = [0u8; 8];
+    field.copy_from_slice(&bytes[at..at + 8]);
+    field
 }
 
 // The one place where a flip field without units is refused: one that cannot be read with the cause that is given, one above 0.5 with its own.
@@ -129,7 +122,7 @@ fn load_gate(middle: &[u8], inputs: usize, j: usize, words: &mut [u32]) -> Resul
     ensures words_after { result ≡ Fine → words.new ≡ sets words.old (gate_index j) (record_words middle.now j) }
 {
     let at = RECORD_BYTES * j;
-    let count = chance::wide(middle[at]);
+    let count = u32::from(middle[at]);
     let used = area::index(count);
     let table = two_bytes(middle, at + TABLE);
     let pins = four_numbers(middle, at + PINS);

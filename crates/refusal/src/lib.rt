@@ -4,6 +4,8 @@
 ghost use Rattle.std.specs.Prelude.{◌≡◌, ◌<◌, length};
 ghost use Rattle.refusal.specs.Judgement.{number_of, lowest, word_judgement};
 
+use std::fmt;
+
 // The causes, by the numbers of document 01 and of document 02, cards 1, 4, 7 and 8.
 #[derive(Clone, Copy, PartialEq, Eq)]
 pub enum Cause {
@@ -48,11 +50,18 @@ impl Cause {
     }
 }
 
-// What is refused: why, and at which place. Judged is what may be refused: a Result.
+// A refusal: why, and at which place.
 #[derive(Clone, Copy, PartialEq, Eq)]
 pub struct Refusal {
     pub cause: Cause,
     pub place: u32,
+}
+
+// As it is printed: the number of the cause, and the place.
+impl fmt::Display for Refusal {
+    fn fmt<W: fmt::Write>(&self, f: &mut fmt::Formatter<W>) -> fmt::Result {
+        write!(f, "{} {}", self.cause.number(), self.place)
+    }
 }
 
 // A list whose words must be at most `most`: the lowest place of a larger one is refused. A place fits its 32 bits.

@@ -66,14 +66,9 @@ fn all_below(words: &[u32], from: usize, to: usize, limit: usize) -> bool
     requires { (from ≤ to) × (to ≤ length words.now) }
     ensures { result ≡ all_below limit (take (to - from) (drop from words.now)) }
 {
-    let mut i = from;
-    while i < to {
-        if area::index(words[i]) >= limit {
-            return false;
-        }
-        i += 1;
-    }
-    true
+    words[from..to]
+        .iter()
+        .all(|word| area::index(*word) < limit)
 }
 
 // Rule 6: each used pin is a source before the gate.
@@ -97,16 +92,10 @@ pub fn used_below(limit: usize, count: usize, pins: [u32; 4]) -> bool
 fn pins_below(pins: [u32; 4], first: usize, second: usize, third: usize, fourth: usize) -> bool
     ensures { result ≡ (ltb (get_or pins 0 0) first && (ltb (get_or pins 1 0) second && (ltb (get_or pins 2 0) third && ltb (get_or pins 3 0) fourth))) }
 {
-    if area::index(pins[0]) >= first {
-        return false;
-    }
-    if area::index(pins[1]) >= second {
-        return false;
-    }
-    if area::index(pins[2]) >= third {
-        return false;
-    }
-    area::index(pins[3]) < fourth
+    area::index(pins[0]) < first
+        && area::index(pins[1]) < second
+        && area::index(pins[2]) < third
+        && area::index(pins[3]) < fourth
 }
 
 // The pins of rules 5 and 6 at once: the used ones below `limit`, the others zero. A case for each count is the fastest way to test both.
@@ -149,13 +138,10 @@ fn gates_sound(area: &[u32]) -> bool
     requires { (layout.outputs_index (layout.gates area.now) ≤ length area.now) × (layout.inputs area.now ≤ layout.most_inputs) }
     ensures { result ≡ gates_sound area.now }
 {
-    let gates = area::gates(area);
-    let mut j = 0;
-    while j < gates {
+    for j in 0..area::gates(area) {
         if !gate_sound(area, j) {
             return false;
         }
-        j += 1;
     }
     true
 }
@@ -217,18 +203,30 @@ pub fn judge_words(area: &[u32]) -> Result<(), Refusal>
     ensures { result ≡ words_judgement area.now }
 {
     if area.len() < area::HEAD_WORDS {
-        return Err(Refusal { cause: Cause::AreaTooShort, place: 0 });
+        return Err(Refusal {
+            cause: Cause::AreaTooShort,
+            place: 0,
+        });
     }
     let gates = area::gates(area);
     let outputs = area::outputs(area);
     if !counts_in_range(area::inputs(area), gates, outputs) {
-        return Err(Refusal { cause: Cause::AreaRule, place: 0 });
+        return Err(Refusal {
+            cause: Cause::AreaRule,
+            place: 0,
+        });
     }
     if area.len() < area::needed(gates, outputs) {
-        return Err(Refusal { cause: Cause::AreaTooShort, place: 0 });
+        return Err(Refusal {
+            cause: Cause::AreaTooShort,
+            place: 0,
+        });
     }
     if !rest_sound(area) {
-        return Err(Refusal { cause: Cause::AreaRule, place: 0 });
+        return Err(Refusal {
+            cause: Cause::AreaRule,
+            place: 0,
+        });
     }
     Ok(())
 }
@@ -255,7 +253,10 @@ pub fn judge_sum(area: &[u32], sum: u64) -> Result<(), Refusal>
     if sum_right(area, sum) {
         Ok(())
     } else {
-        Err(Refusal { cause: Cause::AreaRule, place: 0 })
+        Err(Refusal {
+            cause: Cause::AreaRule,
+            place: 0,
+        })
     }
 }
 

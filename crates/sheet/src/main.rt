@@ -4,32 +4,18 @@
 ghost use Rattle.std.specs.Prelude.{◌≤◌, ◌≡◌, length};
 ghost use Rattle.area.specs.Layout.{most_inputs, most_patterns, head_words};
 
-use bench::{Averaged, NetlistRead, Opened};
+use refusal::Refusal;
 use std::io::{self, Write};
 
-fn print_word(rt: &impl Print, text: &str, number: u64) -> io::Result<()> {
-    print!(rt; "{text}{number}")
-}
-
-fn end_line(rt: &impl Print) -> io::Result<()> {
-    println!(rt;)
-}
-
-fn print_refused(rt: &impl Print, number: u8, place: u32) -> io::Result<()> {
-    print_word(rt, "refused ", number as u64)?;
-    print_word(rt, " ", place as u64)?;
-    end_line(rt)
+fn print_refused(rt: &impl Print, refusal: Refusal) -> io::Result<()> {
+    println!(rt; "refused {refusal}")
 }
 
 // An opened netlist has no more inputs than that, so this takes nothing away: it bounds what is printed.
 fn at_most(inputs: usize) -> usize
     ensures { result ≤ most_inputs }
 {
-    if inputs < area::MOST_INPUTS {
-        inputs
-    } else {
-        area::MOST_INPUTS
-    }
+    inputs.min(area::MOST_INPUTS)
 }
 
 // The values of the most inputs as digits, input 0 first.
@@ -38,11 +24,9 @@ fn spell_pattern(pattern: u32) -> [u8; area::MOST_INPUTS]
 {
     let mut text = [b'0'; area::MOST_INPUTS];
     let mut rest = pattern;
-    let mut i = 0;
-    while i < area::MOST_INPUTS {
-        text[i] = b'0' + (rest % 2) as u8;
+    for digit in text.iter_mut() {
+        *digit = b'0' + (rest % 2) as u8;
         rest /= 2;
-        i += 1;
     }
     text
 }
@@ -62,16 +46,11 @@ fn print_reliability(rt: &impl Print, area: &[u32], inputs: usize) -> io::Result
     requires { inputs ≤ most_inputs }
 {
     match bench::read_netlist(area) {
-        NetlistRead::Done {
-            pattern,
-            units,
-            reliability: _,
-        } => {
-            print_pattern(rt, pattern, inputs)?;
-            print_word(rt, " ", units as u64)?;
-            end_line(rt)
+        Ok(figures) => {
+            print_pattern(rt, figures.pattern, inputs)?;
+            println!(rt; " {}", figures.units)
         }
-        NetlistRead::Refused(number, place) => print_refused(rt, number, place),
+        Err(refusal) => print_refused(rt, refusal),
     }
 }
 
@@ -80,26 +59,22 @@ fn next_pattern(area: &mut [u32], q: usize, inputs: usize)
     requires { inputs ≤ most_inputs }
 {
     let mut rest = q;
-    let mut input = 0;
-    while input < inputs {
-        bench::toggle_input(area, input as u32);
+    for input in 0..inputs {
+        // An opened netlist has this input, so nothing is refused.
+        let _ = bench::toggle_input(area, input as u32);
         if rest % 2 == 0 {
             return;
         }
         rest /= 2;
-        input += 1;
     }
 }
 
 fn print_patterns(rt: &impl Print, area: &mut [u32], inputs: usize) -> io::Result<()>
     requires { inputs ≤ most_inputs }
 {
-    let count = average::pattern_count(inputs);
-    let mut q = 0;
-    while q < count {
+    for q in 0..average::pattern_count(inputs) {
         print_reliability(rt, area, inputs)?;
         next_pattern(area, q, inputs);
-        q += 1;
     }
     Ok(())
 }
@@ -116,22 +91,18 @@ fn print_average(rt: &impl Print, area: &mut [u32], inputs: usize) -> io::Result
     let weights = equal_weights();
     let count = average::pattern_count(inputs);
     match bench::average(area, &weights[..count]) {
-        Averaged::Done(units) => {
-            print_word(rt, "average ", units as u64)?;
-            end_line(rt)
-        }
-        Averaged::Refused(number, place) => print_refused(rt, number, place),
+        Ok(units) => println!(rt; "average {units}"),
+        Err(refusal) => print_refused(rt, refusal),
     }
 }
 
 fn print_counts(rt: &impl Print, area: &[u32], live: u32) -> io::Result<()>
     requires { head_words ≤ length area.now }
 {
-    print_word(rt, "inputs ", area::inputs(area) as u64)?;
-    print_word(rt, " gates ", area::gates(area) as u64)?;
-    print_word(rt, " outputs ", area::outputs(area) as u64)?;
-    print_word(rt, " live ", live as u64)?;
-    end_line(rt)
+    let inputs = area::inputs(area);
+    let gates = area::gates(area);
+    let outputs = area::outputs(area);
+    println!(rt; "inputs {inputs} gates {gates} outputs {outputs} live {live}")
 }
 
 // The largest image has 32,768 bytes; one byte more is read, so that a longer one is refused. The area holds the largest netlist.
@@ -140,12 +111,12 @@ fn main(rt: HostRuntime) -> io::Result<()> {
     let length = reading::read_full(&mut rt.stdin(), &mut image)?;
     let mut area = [0u32; area::MOST_WORDS];
     match bench::open(&mut area, &image[..length]) {
-        Opened::Done(live) => {
+        Ok(live) => {
             print_counts(&rt, &area, live)?;
             let inputs = at_most(area::inputs(&area));
             print_patterns(&rt, &mut area, inputs)?;
             print_average(&rt, &mut area, inputs)
         }
-        Opened::Refused(number, place) => print_refused(&rt, number, place),
+        Err(refusal) => print_refused(&rt, refusal),
     }
 }

@@ -43,10 +43,8 @@ fn write_gates(area: &[u32], image: &mut [u8])
     ensures { image.new ≡ sets image.old 0 (gates_bytes (area_contents area.now)) }
 {
     let gates = area::gates(area);
-    let mut j = 0;
-    while j < gates {
+    for j in 0..gates {
         write_gate(area, j, image);
-        j += 1;
     }
 }
 
@@ -58,11 +56,9 @@ fn write_outputs(area: &[u32], image: &mut [u8])
 {
     let base = image::RECORD_BYTES * area::gates(area);
     let outputs = area::outputs(area);
-    let mut k = 0;
-    while k < outputs {
+    for k in 0..outputs {
         let source = area::index(area::output(area, k));
         records::write_output(image, base + image::OUTPUT_BYTES * k, source);
-        k += 1;
     }
 }
 

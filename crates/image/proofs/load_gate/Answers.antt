@@ -59,7 +59,7 @@ returns c =
     let a = c.args in
     let m = a.middle.now in
     let said = (answer-told _ _ _ (told (goal.at.returns c).After-units_of_flip)).0 c.in_ok-units.units c.in_ok-units.was in
-    let count = c.wide-count.ensures.0 in
+    let count = c.from-count.ensures in
     let words = record-stored m a.j _ _ c.in_ok-units.units _ count c.two_bytes-table.ensures.0 c.four_numbers-pins.ensures (sym said.1) in
     record {
       value = sym (rw (left_over (goal.at.returns c).After-used_below, c.if-not-used_below.false, said.0) refl);

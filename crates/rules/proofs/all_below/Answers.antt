@@ -1,32 +1,16 @@
--- `rules::all_below` meets its contract: what is left to test from i on decides. Assumes nothing.
-use Prim.Native.Nat.{◌-◌}
-use mathlib.Core.Path.{sym, ◌∙◌}
-use native.Mathlib.Omega.{arith}
-use borrow.Author.Tests.{lt-ltb, le-ltb}
-use Rattle.lists.proofs.Every.{passes_on, fails, ends, below-part}
-use Rattle.rules.proofs.all_below.Invariants.{Test}
+-- `rules::all_below` meets its contract: each word of the part is tested. Assumes nothing.
+use Rattle.std.proofs.Common.{rules, ◌≡◌, ◌<◌, ◌-◌, ◌↔◌, Bool, true, false, List, ℕ, IsTrue, EachIndex, refl, sym, get_or, take, drop}
+use Rattle.lists.specs.Lists.{all_below}
+use Rattle.lists.proofs.Every.{below-passes, below_holds}
 use Rattle.rules.proofs.all_below.Goals as goal
 
-pub loop-i-init : goal.loop-i-init
-loop-i-init c =
-    let a = c.args in
-    (c.requires.0, below-part a.limit a.words.now a.from (a.to - a.from) (omega arith))
-
-pub returns-then-index-limit : goal.returns-then-index-limit
-returns-then-index-limit c =
-    let l = c.loop-i in
-    let a = c.args in
-    sym (l.invariant.1 ∙ fails (Test a.words.now a.limit) l.i a.to (omega arith) (le-ltb _ _ (rw c.index.ensures at c.if-index-limit.true)))
-
-pub loop-i-preserved : goal.loop-i-preserved
-loop-i-preserved c =
-    let l = c.loop-i in
-    let a = c.args in
-    let below = lt-ltb _ _ (rw c.index.ensures at c.if-index-limit.false) in
-    (omega arith, l.invariant.1 ∙ passes_on (Test a.words.now a.limit) l.i a.to (omega arith) below)
+below-is : (b : Bool) (limit : ℕ) (xs : List ℕ) → (IsTrue b ↔ EachIndex xs (λ k. get_or xs k 0 < limit)) → b ≡ all_below limit xs
+below-is true limit xs e = sym (below-passes limit xs (e.0 (search rules)))
+below-is false limit xs e = none (all_below limit xs) refl
+  where
+    none : (v : Bool) → all_below limit xs ≡ v → false ≡ v
+    none true z = e.1 (below_holds limit xs z)
+    none false z = refl
 
 pub returns : goal.returns
-returns c =
-    let l = c.loop-i in
-    let a = c.args in
-    sym (l.invariant.1 ∙ ends (Test a.words.now a.limit) l.i a.to (omega arith))
+returns c = below-is c.all.result c.args.limit (take (c.args.to - c.args.from) (drop c.args.from c.args.words.now)) (search rules)

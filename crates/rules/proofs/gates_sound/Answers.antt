@@ -13,21 +13,20 @@ pub loop-j-init : goal.loop-j-init
 unfolding gates_sound
 loop-j-init c =
     let ws = c.args.area.now in
-    let all : layout.gates ws ≡ c.gates-gates.result - 0 = omega arith in
-    (omega arith, c.gates-gates.ensures, ap (every_from (gate_sound ws) 0) all)
+    let all : layout.gates ws ≡ layout.gates ws - 0 = omega arith in
+    ap (every_from (gate_sound ws) 0) all
 
 pub returns-then-not-gate_sound : goal.returns-then-not-gate_sound
 returns-then-not-gate_sound c =
     let l = c.loop-j in
-    sym (l.invariant.2 ∙ fails (gate_sound _) l.j c.gates-gates.result (omega arith) (no c.gate_sound.ensures c.if-not-gate_sound.true))
+    sym (l.invariant ∙ fails (gate_sound _) l.j (layout.gates c.args.area.now) (omega arith) (no c.gate_sound.ensures c.if-not-gate_sound.true))
 
 pub loop-j-preserved : goal.loop-j-preserved
 loop-j-preserved c =
     let l = c.loop-j in
-    let more = passes_on (gate_sound _) l.j c.gates-gates.result (omega arith) (yes c.gate_sound.ensures c.if-not-gate_sound.false) in
-    (omega arith, l.invariant.1, l.invariant.2 ∙ more)
+    l.invariant ∙ passes_on (gate_sound _) l.j (layout.gates c.args.area.now) (omega arith) (yes c.gate_sound.ensures c.if-not-gate_sound.false)
 
 pub returns : goal.returns
 returns c =
     let l = c.loop-j in
-    sym (l.invariant.2 ∙ ends (gate_sound c.args.area.now) l.j c.gates-gates.result (omega arith))
+    sym (l.invariant ∙ ends (gate_sound c.args.area.now) l.j (layout.gates c.args.area.now) (omega arith))

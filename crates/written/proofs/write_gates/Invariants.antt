@@ -1,4 +1,3 @@
-use Prim.Native.Nat.{◌-◌, ◌≤◌}
 use mathlib.Core.Path.{◌≡◌}
 use lib.ListN.{length}
 use lib.Seq.{sets}
@@ -9,7 +8,4 @@ use Rattle.written.proofs.write_gates.Given as goal
 
 abbrev pub invariant-loop-j : goal.invariant-loop-j
 invariant-loop-j l =
-    (l.j ≤ l.gates) × (length l.image ≡ length l.initial.image) × (l.image ≡ sets l.initial.image 0 (joined (contents_record (area_contents l.area)) l.j))
-
-abbrev pub decreases-loop-j : goal.decreases-loop-j
-decreases-loop-j l = l.gates - l.j
+    (length l.image ≡ length l.initial.image) × (l.image ≡ sets l.initial.image 0 (joined (contents_record (area_contents l.area)) l.j))

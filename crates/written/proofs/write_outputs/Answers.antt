@@ -22,7 +22,7 @@ pub outputs-outputs-requires : goal.outputs-outputs-requires
 outputs-outputs-requires c = omega (arith, c.requires.0.net.long)
 
 pub loop-k-init : goal.loop-k-init
-loop-k-init c = (omega arith, refl, refl)
+loop-k-init c = (refl, refl)
 
 pub output-requires : goal.output-requires
 output-requires c =
@@ -50,7 +50,7 @@ write_output-requires c =
     let below = c.loop-k-test.true in
     let many = c.outputs-outputs.ensures in
     let low = output-source c.args.area.now net c.loop-k.k (omega (arith, below, many)) in (
-      omega (arith, below, many, c.gates-base.ensures, c.loop-k.invariant.1, c.requires.1),
+      omega (arith, below, many, c.gates-base.ensures, c.loop-k.invariant.0, c.requires.1),
       omega (arith, c.index-source.ensures, c.output.ensures, low, net.inputs_fit, net.gates_fit),
     )
 
@@ -62,13 +62,13 @@ loop-k-preserved c =
     let many = c.gates-base.ensures in
     let source = c.index-source.ensures ∙ c.output.ensures in
     let new = joined-turn (word ws) a.image.now l.image _ (record_bytes * gates ws) l.k (middle_bytes (gates ws) l.k)
-    (omega (arith, length-joined (word ws) output_bytes (λ i. refl) l.k)) l.invariant.2 (rw (source, many) at c.write_output.ensures) in
+    (omega (arith, length-joined (word ws) output_bytes (λ i. refl) l.k)) l.invariant.1 (rw (source, many) at c.write_output.ensures) in
     let kept = ap length new ∙ length-sets a.image.now (record_bytes * gates ws) (joined (word ws) (l.k + 1)) in
-    (omega (arith, c.loop-k-test.true), kept, new)
+    (kept, new)
 
 pub returns : goal.returns
 returns c =
     let l = c.loop-k in
     let end = c.outputs-outputs.ensures in
-    let all : l.k ≡ c.outputs-outputs.result = omega (arith, c.loop-k-test.false) in
-    rw (all ∙ end) at l.invariant.2
+    let all : l.k ≡ c.outputs-outputs.result = omega arith in
+    rw (all ∙ end) at l.invariant.1

@@ -2,7 +2,7 @@ use Prim.Native.Nat.{ℕ}
 use mathlib.Core.List.{List}
 use Rattle.area.specs.Layout.{output}
 use Rattle.records.specs.Bytes.{two_bytes}
-use Prim.Native.Nat.{◌-◌, ◌*◌, ◌≤◌}
+use Prim.Native.Nat.{◌*◌}
 use mathlib.Core.Path.{◌≡◌}
 use lib.ListN.{length}
 use lib.Seq.{sets}
@@ -16,7 +16,4 @@ word ws k = two_bytes (output ws k)
 
 abbrev pub invariant-loop-k : goal.invariant-loop-k
 invariant-loop-k l =
-    (l.k ≤ l.outputs) × (length l.image ≡ length l.initial.image) × (l.image ≡ sets l.initial.image (record_bytes * gates l.area) (joined (word l.area) l.k))
-
-abbrev pub decreases-loop-k : goal.decreases-loop-k
-decreases-loop-k l = l.outputs - l.k
+    (length l.image ≡ length l.initial.image) × (l.image ≡ sets l.initial.image (record_bytes * gates l.area) (joined (word l.area) l.k))
