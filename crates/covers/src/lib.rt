@@ -51,6 +51,7 @@ fn cover_rows(words: &Words, from: usize, width: usize) -> usize
     ensures { result ≡ table_of width (some_meets (cover_of (lines_in words.now from))) }
 {
     let mut rows = 0;
+    // The step is the length of a line, so no range goes through it.
     let mut k = from;
     while k < words.count {
         if model::key_at(words, k) != model::COVER {
@@ -62,7 +63,7 @@ fn cover_rows(words: &Words, from: usize, width: usize) -> usize
     rows
 }
 
-// What the lines of the cover that begins at word `from` end in.
+// What the lines of the cover that begins at word `from` end in; 2 for none, and no Option: specs/Cover.antt `ending_of` says it so.
 fn ending(words: &Words, from: usize) -> usize
     requires { LentFew words.now × (from ≤ words.now.count) }
     ensures { result ≡ ending_of (cover_of (lines_in words.now from)) }
