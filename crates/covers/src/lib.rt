@@ -52,6 +52,7 @@ fn cover_rows(words: &Words, from: usize, width: usize) -> usize
     ensures { result ≡ table_of width (some_meets (cover_of (lines_in words.now from))) }
 {
     let mut rows = 0;
+    // The step is the length of a line, so no range goes through it.
     let mut k = from;
     while k < words.count {
         if model::key_at(words, k) != Keyword::Other {

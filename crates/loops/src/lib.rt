@@ -85,6 +85,7 @@ fn mark_gate(
 }
 
 // Whether a gate depends on itself. Those with an entry in `clear` are known not to, so no way back leads through them.
+// Marks are numbers and no bools: they begin as the places of gates, and specs/Marks.antt `Room`, `Marked`, `Clear` say them so.
 fn on_itself(clear: &[u16; area::MOST_GATES], sources: Sources, gates: usize, gate: usize) -> bool
     requires gate_lt_gates { (gate < gates) × (gates ≤ most_gates) × LentTables sources × ((j i : ℕ) → j < gates
         → Reads (lent_sources sources) sources.inputs j i → i < gates) }

@@ -75,7 +75,7 @@ fn copy(from: &[u16], start: usize, many: usize, table: &mut [u16], count: usize
     table[count..count + many].copy_from_slice(&from[start..start + many]);
 }
 
-// A run of words, put into the tables of names after `count` others; how many there are then.
+// A run of words, put into the tables of names after `count` others; how many there are then. Most lines of a long cover have none, and cost no call.
 fn enter(
     words: &Words,
     start: usize,
@@ -90,6 +90,9 @@ fn enter(
     ensures { Collected words.now.text.now names.old numbers.old count
         (held words.now.text.now words.now.starts.now words.now.lines.now start many) names.new numbers.new result }
 {
+    if many == 0 {
+        return count;
+    }
     copy(words.starts, start, many, names, count);
     copy(words.lines, start, many, numbers, count);
     count + many
@@ -110,6 +113,7 @@ pub fn collect(
         (listed wanted (lines_in words.now 0)) names.new numbers.new result }
 {
     let mut count = from;
+    // The step is the length of a line, so no range goes through it.
     let mut k = 0;
     while k < words.count {
         let rest = statements::line_rest(words, k);
@@ -150,6 +154,7 @@ pub fn heads(words: &Words, heads: &mut [u16]) -> usize
     ensures heads_len_unchanged { length heads.new ≡ length heads.old }
 {
     let mut count = 0;
+    // As in `collect`, the step is the length of a line.
     let mut k = 0;
     while k < words.count {
         let rest = statements::line_rest(words, k);
