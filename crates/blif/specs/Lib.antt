@@ -1,3 +1,4 @@
 pub mod Reading
 pub mod Resolved
 pub mod Stages
+pub mod Lent

@@ -3,42 +3,39 @@
 
 ghost use Rattle.std.specs.Prelude.{◌≡◌, ◌+◌, ◌<◌, length};
 ghost use Rattle.refusal.specs.Judgement.{unless_refused, answer};
-ghost use Rattle.placing.specs.Placing.{sources_of, Placed};
-ghost use Rattle.model.specs.Tables.{lines_from};
+ghost use Rattle.placing.specs.Placing.{lent_sources, Placed};
+ghost use Rattle.model.specs.Tables.{lines_in};
 ghost use Rattle.blif.specs.Reading.{no_place, text_lines, model_length, room_fault, lines_refusal, blif_refusal, image_over, blif_left};
-ghost use Rattle.blif.specs.Resolved.{Resolved};
-ghost use Rattle.blif.specs.Stages.{placed_refusal, gates_refusal, outputs_refusal, names_refusal, Named, OutputsKnown, Within, Fitting};
+ghost use Rattle.blif.specs.Lent.{SameText, LentNamed, LentOutputs, LentResolved};
+ghost use Rattle.blif.specs.Stages.{placed_refusal, gates_refusal, outputs_refusal, names_refusal, Within, Fitting};
 ghost use Rattle.model.specs.Counts.{earlier, some_fault, count_fault};
-ghost use Rattle.writing.specs.Written.{Words};
+ghost use Rattle.writing.specs.Lent.{HeldWords};
 
+use names::Words;
+use placing::Sources;
 use refusal::{Cause, Refusal};
 use statements::Keyword;
 
 // Refusal 20 of a model whose gates are placed; if it does not apply the image is written.
 fn write_fitting(
-    text: &[u8],
-    starts: &[u16],
-    lines: &[u16],
-    n: usize,
+    words: &Words,
+    names: &Words,
+    sources: Sources,
     heads: &[u16],
-    pins: &[u16; placing::PIN_ENTRIES],
-    counts: &[u16; area::MOST_GATES],
     outs: &[u16],
-    numbers: &[u16],
     place: &[u16; area::MOST_GATES],
     order: &[u16; area::MOST_GATES],
-    inputs: usize,
     gates: usize,
     outputs: usize,
     image: &mut [u8],
 ) -> Result<u32, Refusal>
-    requires resolved { Resolved text.now starts.now lines.now n heads.now pins.now counts.now outs.now numbers.now inputs gates outputs }
-    requires placed { Placed (sources_of pins.now counts.now) inputs gates no_place gates place.now order.now }
-    ensures value { result ≡ answer (room_fault (lines_from text.now starts.now lines.now n 0) (length image.old))
-        (model_length (lines_from text.now starts.now lines.now n 0)) }
+    requires resolved { LentResolved names.now words.now sources heads.now outs.now gates outputs }
+    requires placed { Placed (lent_sources sources) sources.inputs gates no_place gates place.now order.now }
+    ensures value { result ≡ answer (room_fault (lines_in words.now 0) (length image.old))
+        (model_length (lines_in words.now 0)) }
     ensures image_after { image.new ≡ unless_refused
-        (room_fault (lines_from text.now starts.now lines.now n 0) (length image.old))
-        (image_over (lines_from text.now starts.now lines.now n 0) image.old) image.old }
+        (room_fault (lines_in words.now 0) (length image.old))
+        (image_over (lines_in words.now 0) image.old) image.old }
 {
     let needed = image::RECORD_BYTES * gates + image::OUTPUT_BYTES * outputs + image::TRAILER_BYTES;
     if image.len() < needed {
@@ -48,53 +45,41 @@ fn write_fitting(
         });
     }
     writing::write_image(
-        text, starts, lines, n, heads, pins, counts, outs, place, order, inputs, gates, outputs,
-        image,
+        words, sources, heads, outs, place, order, gates, outputs, image,
     );
     Ok(needed as u32)
 }
 
 // Refusal 19 for a loop, then 20, of a model whose names are all known.
 fn place_model(
-    text: &[u8],
-    starts: &[u16],
-    lines: &[u16],
-    n: usize,
+    words: &Words,
+    names: &Words,
+    sources: Sources,
     heads: &[u16],
-    pins: &[u16; placing::PIN_ENTRIES],
-    counts: &[u16; area::MOST_GATES],
     outs: &[u16],
-    numbers: &[u16],
-    inputs: usize,
     gates: usize,
     outputs: usize,
     image: &mut [u8],
 ) -> Result<u32, Refusal>
-    requires { Resolved text.now starts.now lines.now n heads.now pins.now counts.now outs.now numbers.now inputs gates outputs }
-    ensures value { result ≡ answer (placed_refusal (lines_from text.now starts.now lines.now n 0) (length image.old))
-        (model_length (lines_from text.now starts.now lines.now n 0)) }
+    requires { LentResolved names.now words.now sources heads.now outs.now gates outputs }
+    ensures value { result ≡ answer (placed_refusal (lines_in words.now 0) (length image.old))
+        (model_length (lines_in words.now 0)) }
     ensures image_after { image.new ≡ unless_refused
-        (placed_refusal (lines_from text.now starts.now lines.now n 0) (length image.old))
-        (image_over (lines_from text.now starts.now lines.now n 0) image.old) image.old }
+        (placed_refusal (lines_in words.now 0) (length image.old))
+        (image_over (lines_in words.now 0) image.old) image.old }
 {
     let mut place = [0u16; area::MOST_GATES];
     let mut order = [0u16; area::MOST_GATES];
-    loops::order_gates(&mut place, &mut order, pins, counts, inputs, gates, numbers)?;
+    loops::order_gates(&mut place, &mut order, sources, gates, names.lines)?;
     write_fitting(
-        text, starts, lines, n, heads, pins, counts, outs, numbers, &place, &order, inputs, gates,
-        outputs, image,
+        words, names, sources, heads, outs, &place, &order, gates, outputs, image,
     )
 }
 
 // Undefined sources, then loops and 20. The outputs are known.
 fn read_gates(
-    text: &[u8],
-    starts: &[u16],
-    lines: &[u16],
-    n: usize,
-    names: &[u16],
-    numbers: &[u16],
-    many: usize,
+    words: &Words,
+    names: &Words,
     heads: &[u16],
     outs: &[u16],
     inputs: usize,
@@ -102,117 +87,81 @@ fn read_gates(
     outputs: usize,
     image: &mut [u8],
 ) -> Result<u32, Refusal>
-    requires named { Named text.now starts.now lines.now n names.now numbers.now many heads.now inputs gates }
-    requires outputs_known { OutputsKnown text.now starts.now lines.now n outs.now inputs outputs }
-    ensures value { result ≡ answer (gates_refusal (lines_from text.now starts.now lines.now n 0) (length image.old))
-        (model_length (lines_from text.now starts.now lines.now n 0)) }
+    requires same_text { SameText names.now words.now }
+    requires named { LentNamed names.now words.now heads.now inputs gates }
+    requires outputs_known { LentOutputs words.now outs.now inputs outputs }
+    ensures value { result ≡ answer (gates_refusal (lines_in words.now 0) (length image.old))
+        (model_length (lines_in words.now 0)) }
     ensures image_after { image.new ≡ unless_refused
-        (gates_refusal (lines_from text.now starts.now lines.now n 0) (length image.old))
-        (image_over (lines_from text.now starts.now lines.now n 0) image.old) image.old }
+        (gates_refusal (lines_in words.now 0) (length image.old))
+        (image_over (lines_in words.now 0) image.old) image.old }
 {
     let mut pins = [0u16; placing::PIN_ENTRIES];
     let mut counts = [0u16; area::MOST_GATES];
-    resolve::resolve_gates(
-        text,
-        names,
-        many,
-        starts,
-        lines,
-        n,
-        heads,
-        gates,
-        &mut pins,
-        &mut counts,
-    )?;
-    place_model(
-        text, starts, lines, n, heads, &pins, &counts, outs, numbers, inputs, gates, outputs, image,
-    )
+    resolve::resolve_gates(names, words, heads, gates, &mut pins, &mut counts)?;
+    let sources = Sources {
+        inputs,
+        pins: &pins,
+        counts: &counts,
+    };
+    place_model(words, names, sources, heads, outs, gates, outputs, image)
 }
 
 // Undefined outputs, then undefined sources, loops and 20.
 fn read_outputs(
-    text: &[u8],
-    starts: &[u16],
-    lines: &[u16],
-    n: usize,
-    names: &[u16],
-    numbers: &[u16],
-    many: usize,
+    words: &Words,
+    names: &Words,
     heads: &[u16],
     inputs: usize,
     gates: usize,
     image: &mut [u8],
 ) -> Result<u32, Refusal>
-    requires { Named text.now starts.now lines.now n names.now numbers.now many heads.now inputs gates }
-    ensures value { result ≡ answer (outputs_refusal (lines_from text.now starts.now lines.now n 0) (length image.old))
-        (model_length (lines_from text.now starts.now lines.now n 0)) }
+    requires same_text { SameText names.now words.now }
+    requires named { LentNamed names.now words.now heads.now inputs gates }
+    ensures value { result ≡ answer (outputs_refusal (lines_in words.now 0) (length image.old))
+        (model_length (lines_in words.now 0)) }
     ensures image_after { image.new ≡ unless_refused
-        (outputs_refusal (lines_from text.now starts.now lines.now n 0) (length image.old))
-        (image_over (lines_from text.now starts.now lines.now n 0) image.old) image.old }
+        (outputs_refusal (lines_in words.now 0) (length image.old))
+        (image_over (lines_in words.now 0) image.old) image.old }
 {
     let mut uses = [0u16; area::MOST_OUTPUTS];
     let mut places = [0u16; area::MOST_OUTPUTS];
-    let outputs = model::collect(
-        text,
-        starts,
-        lines,
-        n,
-        Keyword::Outputs,
-        &mut uses,
-        &mut places,
-        0,
-    );
+    let outputs = model::collect(words, Keyword::Outputs, &mut uses, &mut places, 0);
+    let used = Words {
+        text: words.text,
+        starts: &uses,
+        lines: &places,
+        count: outputs,
+    };
     let mut outs = [0u16; area::MOST_OUTPUTS];
-    resolve::resolve(text, names, many, &uses, &places, 0, outputs, &mut outs, 0)?;
-    read_gates(
-        text, starts, lines, n, names, numbers, many, heads, &outs, inputs, gates, outputs, image,
-    )
+    resolve::resolve(names, &used, 0, outputs, &mut outs, 0)?;
+    read_gates(words, names, heads, &outs, inputs, gates, outputs, image)
 }
 
 // Names defined twice, then undefined names, loops and 20, of a text whose counts are right.
-fn read_names(
-    text: &[u8],
-    starts: &[u16],
-    lines: &[u16],
-    n: usize,
-    image: &mut [u8],
-) -> Result<u32, Refusal>
-    requires words { Words text.now starts.now lines.now n }
-    requires within { Within (lines_from text.now starts.now lines.now n 0) × Fitting (lines_from text.now starts.now lines.now n 0) }
-    ensures value { result ≡ answer (names_refusal (lines_from text.now starts.now lines.now n 0) (length image.old))
-        (model_length (lines_from text.now starts.now lines.now n 0)) }
+fn read_names(words: &Words, image: &mut [u8]) -> Result<u32, Refusal>
+    requires words { HeldWords words.now }
+    requires within { Within (lines_in words.now 0) × Fitting (lines_in words.now 0) }
+    ensures value { result ≡ answer (names_refusal (lines_in words.now 0) (length image.old))
+        (model_length (lines_in words.now 0)) }
     ensures image_after { image.new ≡ unless_refused
-        (names_refusal (lines_from text.now starts.now lines.now n 0) (length image.old))
-        (image_over (lines_from text.now starts.now lines.now n 0) image.old) image.old }
+        (names_refusal (lines_in words.now 0) (length image.old))
+        (image_over (lines_in words.now 0) image.old) image.old }
 {
-    let mut names = [0u16; area::MOST_SOURCES];
-    let mut numbers = [0u16; area::MOST_SOURCES];
-    let inputs = model::collect(
-        text,
-        starts,
-        lines,
-        n,
-        Keyword::Inputs,
-        &mut names,
-        &mut numbers,
-        0,
-    );
-    let many = model::collect(
-        text,
-        starts,
-        lines,
-        n,
-        Keyword::Names,
-        &mut names,
-        &mut numbers,
-        inputs,
-    );
+    let mut starts = [0u16; area::MOST_SOURCES];
+    let mut lines = [0u16; area::MOST_SOURCES];
+    let inputs = model::collect(words, Keyword::Inputs, &mut starts, &mut lines, 0);
+    let many = model::collect(words, Keyword::Names, &mut starts, &mut lines, inputs);
+    let names = Words {
+        text: words.text,
+        starts: &starts,
+        lines: &lines,
+        count: many,
+    };
     let mut heads = [0u16; area::MOST_GATES];
-    let gates = model::heads(text, starts, lines, n, &mut heads);
-    resolve::judge_again(text, &names, &numbers, many)?;
-    read_outputs(
-        text, starts, lines, n, &names, &numbers, many, &heads, inputs, gates, image,
-    )
+    let gates = model::heads(words, &mut heads);
+    resolve::judge_again(&names)?;
+    read_outputs(words, &names, &heads, inputs, gates, image)
 }
 
 // Of two refusals the one at the lower line.
@@ -227,49 +176,43 @@ fn earlier(first: Result<(), Refusal>, second: Result<(), Refusal>) -> Result<()
 }
 
 // A model without an output is refused at its last line, `.end`.
-fn judge_some(text: &[u8], starts: &[u16], lines: &[u16], n: usize) -> Result<(), Refusal>
-    requires { Words text.now starts.now lines.now n × (0 < n) }
-    ensures { result ≡ some_fault (lines_from text.now starts.now lines.now n 0) }
+fn judge_some(words: &Words) -> Result<(), Refusal>
+    requires { HeldWords words.now × (0 < words.now.count) }
+    ensures { result ≡ some_fault (lines_in words.now 0) }
 {
-    match model::judge_count(text, starts, lines, n, Keyword::Outputs, 0) {
+    match model::judge_count(words, Keyword::Outputs, 0) {
         Ok(()) => Err(Refusal {
             cause: Cause::TextModel,
-            place: names::line(lines, n - 1),
+            place: words.line(words.count - 1),
         }),
         Err(_) => Ok(()),
     }
 }
 
 // Refusal 19 for counts outside the image's.
-fn judge_counts(text: &[u8], starts: &[u16], lines: &[u16], n: usize) -> Result<(), Refusal>
-    requires { Words text.now starts.now lines.now n × (0 < n) }
-    ensures { result ≡ count_fault (lines_from text.now starts.now lines.now n 0) }
+fn judge_counts(words: &Words) -> Result<(), Refusal>
+    requires { HeldWords words.now × (0 < words.now.count) }
+    ensures { result ≡ count_fault (lines_in words.now 0) }
 {
-    let inputs = model::judge_count(text, starts, lines, n, Keyword::Inputs, area::MOST_INPUTS);
-    let outputs = model::judge_count(text, starts, lines, n, Keyword::Outputs, area::MOST_OUTPUTS);
-    let gates = model::judge_count(text, starts, lines, n, Keyword::Names, area::MOST_GATES);
-    let some = judge_some(text, starts, lines, n);
+    let inputs = model::judge_count(words, Keyword::Inputs, area::MOST_INPUTS);
+    let outputs = model::judge_count(words, Keyword::Outputs, area::MOST_OUTPUTS);
+    let gates = model::judge_count(words, Keyword::Names, area::MOST_GATES);
+    let some = judge_some(words);
     earlier(inputs, earlier(outputs, earlier(gates, some)))
 }
 
 // Refusals 19 and 20 of a text where 18 finds nothing.
-fn read_model(
-    text: &[u8],
-    starts: &[u16],
-    lines: &[u16],
-    n: usize,
-    image: &mut [u8],
-) -> Result<u32, Refusal>
-    requires words { Words text.now starts.now lines.now n × (0 < n) }
-    requires fitting { Fitting (lines_from text.now starts.now lines.now n 0) }
-    ensures value { result ≡ answer (lines_refusal (lines_from text.now starts.now lines.now n 0) (length image.old))
-        (model_length (lines_from text.now starts.now lines.now n 0)) }
+fn read_model(words: &Words, image: &mut [u8]) -> Result<u32, Refusal>
+    requires words { HeldWords words.now × (0 < words.now.count) }
+    requires fitting { Fitting (lines_in words.now 0) }
+    ensures value { result ≡ answer (lines_refusal (lines_in words.now 0) (length image.old))
+        (model_length (lines_in words.now 0)) }
     ensures image_after { image.new ≡ unless_refused
-        (lines_refusal (lines_from text.now starts.now lines.now n 0) (length image.old))
-        (image_over (lines_from text.now starts.now lines.now n 0) image.old) image.old }
+        (lines_refusal (lines_in words.now 0) (length image.old))
+        (image_over (lines_in words.now 0) image.old) image.old }
 {
-    judge_counts(text, starts, lines, n)?;
-    read_names(text, starts, lines, n, image)
+    judge_counts(words)?;
+    read_names(words, image)
 }
 
 // Reads a text, whatever its bytes, and writes its image over the first bytes of a slice; it answers the image's length. A refused call changes no byte.
@@ -286,7 +229,12 @@ pub fn read_blif(text: &[u8], image: &mut [u8]) -> Result<u32, Refusal>
     let mut starts = [0u16; texts::MOST_WORDS];
     let mut lines = [0u16; texts::MOST_WORDS];
     let found = texts::read_words(text, &mut starts, &mut lines);
-    let n = found.count;
-    statements::fault(text, &starts, &lines, n, found.last)?;
-    read_model(text, &starts, &lines, n, image)
+    let words = Words {
+        text,
+        starts: &starts,
+        lines: &lines,
+        count: found.count,
+    };
+    statements::fault(&words, found.last)?;
+    read_model(&words, image)
 }

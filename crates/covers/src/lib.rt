@@ -4,23 +4,23 @@
 ghost use Rattle.std.specs.Prelude.{◌≡◌, ◌+◌, ◌*◌, ◌^◌, ◌<◌, ◌≤◌, length, get_or};
 ghost use Rattle.figure.specs.Figure.{bit_of};
 ghost use Rattle.area.specs.Layout.{most_pins};
-ghost use Rattle.texts.specs.Words.{most_words};
-ghost use Rattle.statements.specs.Lines.{Places};
 ghost use Rattle.model.specs.Model.{cover_of};
-ghost use Rattle.model.specs.Tables.{lines_from};
+ghost use Rattle.model.specs.Tables.{lines_in, LentFew};
 ghost use Rattle.covers.specs.Cover.{byte_meets, meets, some_meets, ending_of, table_of, cover_table};
 
+use names::Words;
 use statements::Keyword;
 
 // What a byte makes of the rows met by those before it: with a 0 at its source they stay where they are, with a 1 they stand `above` times as high.
+#[tactic(auto, unfolding(crate::specs::Cover::byte_meets))]
 fn factor(b: u8, above: usize) -> usize
     requires { above < 65_536 }
     ensures { result ≡ bit_of (byte_meets b 0) + above * bit_of (byte_meets b 1) }
 {
     match b {
-        45 => 1 + above,
-        48 => 1,
-        49 => above,
+        b'-' => 1 + above,
+        b'0' => 1,
+        b'1' => above,
         _ => 0,
     }
 }
@@ -29,7 +29,7 @@ fn factor(b: u8, above: usize) -> usize
 fn byte_for(line: &[u8], i: usize) -> u8
     ensures { result ≡ get_or line.now i 45 }
 {
-    if i < line.len() { line[i] } else { 45 }
+    line.get(i).copied().unwrap_or(b'-')
 }
 
 // The rows of a table with `width` pins that a line meets: bit i is row i. Each source doubles the rows.
@@ -39,51 +39,43 @@ fn line_rows(line: &[u8], width: usize) -> usize
 {
     let mut rows = 1;
     let mut above = 2;
-    let mut i = 0;
-    while i < width {
-        rows = rows * factor(byte_for(line, i), above);
-        above = above * above;
-        i += 1;
+    for i in 0..width {
+        rows *= factor(byte_for(line, i), above);
+        above *= above;
     }
     rows
 }
 
 // The rows that some line of the cover that begins at word `from` meets.
-fn cover_rows(
-    text: &[u8],
-    starts: &[u16],
-    lines: &[u16],
-    n: usize,
-    from: usize,
-    width: usize,
-) -> usize
-    requires { Places text.now starts.now n × (n ≤ length lines.now) × (n ≤ most_words) × (from ≤ n) × (width ≤ most_pins) }
-    ensures { result ≡ table_of width (some_meets (cover_of (lines_from text.now starts.now lines.now n from))) }
+fn cover_rows(words: &Words, from: usize, width: usize) -> usize
+    requires { LentFew words.now × (from ≤ words.now.count) × (width ≤ most_pins) }
+    ensures { result ≡ table_of width (some_meets (cover_of (lines_in words.now from))) }
 {
     let mut rows = 0;
+    // The step is the length of a line, so no range goes through it.
     let mut k = from;
-    while k < n {
-        if model::key_at(text, starts, k) != Keyword::Other {
+    while k < words.count {
+        if model::key_at(words, k) != Keyword::Other {
             return rows;
         }
-        rows |= line_rows(names::word(text, names::entry(starts, k)), width);
-        k += statements::line_rest(lines, k, n) + 1;
+        rows |= line_rows(words.word(k), width);
+        k += statements::line_rest(words, k) + 1;
     }
     rows
 }
 
 // What the lines of the cover that begins at word `from` end in, if there are any.
-fn ending(text: &[u8], starts: &[u16], lines: &[u16], n: usize, from: usize) -> Option<bool>
-    requires { Places text.now starts.now n × (n ≤ length lines.now) × (n ≤ most_words) × (from ≤ n) }
-    ensures { result ≡ ending_of (cover_of (lines_from text.now starts.now lines.now n from)) }
+fn ending(words: &Words, from: usize) -> Option<bool>
+    requires { LentFew words.now × (from ≤ words.now.count) }
+    ensures { result ≡ ending_of (cover_of (lines_in words.now from)) }
 {
-    if from == n {
+    if from == words.count {
         return None;
     }
-    if model::key_at(text, starts, from) != Keyword::Other {
+    if model::key_at(words, from) != Keyword::Other {
         return None;
     }
-    statements::value_at(text, starts, from + statements::line_rest(lines, from, n))
+    statements::value_at(words, from + statements::line_rest(words, from))
 }
 
 // The table that is 1 in every row.
@@ -91,31 +83,19 @@ fn all_rows(width: usize) -> usize
     requires { width ≤ most_pins }
     ensures { result + 1 ≡ 2 ^ 2 ^ width }
 {
-    match width {
-        0 => 1,
-        1 => 3,
-        2 => 15,
-        3 => 255,
-        _ => 65_535,
-    }
+    (1 << (1usize << width)) - 1
 }
 
 // The table of a gate with `width` pins whose cover begins at word `from`. An empty cover ends in neither value: no row is met, and its table is 0.
-pub fn table(
-    text: &[u8],
-    starts: &[u16],
-    lines: &[u16],
-    n: usize,
-    from: usize,
-    width: usize,
-) -> usize
-    requires { Places text.now starts.now n × (n ≤ length lines.now) × (n ≤ most_words) × (from ≤ n) × (width ≤ most_pins) }
-    ensures value { result ≡ cover_table width (cover_of (lines_from text.now starts.now lines.now n from)) }
+pub fn table(words: &Words, from: usize, width: usize) -> usize
+    requires { LentFew words.now × (from ≤ words.now.count) × (width ≤ most_pins) }
+    ensures value { result ≡ cover_table width (cover_of (lines_in words.now from)) }
     ensures upper_bound { result < 65_536 }
 {
-    let rows = cover_rows(text, starts, lines, n, from, width);
-    if ending(text, starts, lines, n, from) == Some(false) {
-        return all_rows(width) - rows;
+    let rows = cover_rows(words, from, width);
+    if ending(words, from) == Some(false) {
+        all_rows(width) - rows
+    } else {
+        rows
     }
-    rows
 }

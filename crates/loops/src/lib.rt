@@ -4,9 +4,10 @@
 ghost use Rattle.std.specs.Prelude.{◌≡◌, [], ◌∷◌, ℕ, ◌+◌, ◌-◌, ◌*◌, ◌<◌, ◌≤◌, length, get_or};
 ghost use Rattle.area.specs.Layout.{most_pins, most_inputs, most_gates};
 ghost use Rattle.refusal.specs.Judgement.{Fine};
-ghost use Rattle.placing.specs.Placing.{entries, sources_of, Tables, Reads, Kept, Placed, loop_fault};
+ghost use Rattle.placing.specs.Placing.{entries, lent_sources, LentTables, Reads, Kept, Placed, loop_fault};
 ghost use Rattle.loops.specs.Marks.{Room, Marked, Clear, Answers};
 
+use placing::Sources;
 use refusal::{Cause, Refusal};
 
 // Each gate is put on the pile once, and the one that the search begins with once more.
@@ -40,20 +41,23 @@ fn mark(
     marks: &mut [u16; area::MOST_GATES],
     pile: &mut [u16; PILE],
     top: usize,
-    pins: &[u16; placing::PIN_ENTRIES],
-    n: usize,
+    sources: Sources,
     from: usize,
     many: usize,
 ) -> usize
-    requires { Room marks.old pile.old top × (n ≤ most_inputs) × (from + many ≤ most_pins * most_gates)
-        × ((k : ℕ) → get_or pins.now k 0 < n + most_gates) }
-    ensures { Marked n (entries pins.now from many) marks.old pile.old top marks.new pile.new result }
+    requires { Room marks.old pile.old top × (sources.inputs ≤ most_inputs) × (from + many ≤ most_pins * most_gates)
+        × ((k : ℕ) → get_or sources.pins.now k 0 < sources.inputs + most_gates) }
+    ensures { Marked sources.entry.inputs (entries sources.entry.pins.now from many) marks.old pile.old top marks.new pile.new result }
 {
     let mut lying = top;
-    let mut i = 0;
-    while i < many {
-        lying = mark_one(marks, pile, lying, n, pins[from + i] as usize);
-        i += 1;
+    for i in from..from + many {
+        lying = mark_one(
+            marks,
+            pile,
+            lying,
+            sources.inputs,
+            usize::from(sources.pins[i]),
+        );
     }
     lying
 }
@@ -63,39 +67,30 @@ fn mark_gate(
     marks: &mut [u16; area::MOST_GATES],
     pile: &mut [u16; PILE],
     top: usize,
-    pins: &[u16; placing::PIN_ENTRIES],
-    counts: &[u16; area::MOST_GATES],
-    n: usize,
+    sources: Sources,
     gate: usize,
 ) -> usize
-    requires { Room marks.old pile.old top × (gate < most_gates) × Tables n pins.now counts.now }
-    ensures { Marked n (sources_of pins.now counts.now gate) marks.old pile.old top
+    requires { Room marks.old pile.old top × (gate < most_gates) × LentTables sources }
+    ensures { Marked sources.entry.inputs (lent_sources sources.entry gate) marks.old pile.old top
         marks.new pile.new result }
 {
     mark(
         marks,
         pile,
         top,
-        pins,
-        n,
+        sources,
         area::MOST_PINS * gate,
-        counts[gate] as usize,
+        usize::from(sources.counts[gate]),
     )
 }
 
 // Whether a gate depends on itself. Those with an entry in `clear` are known not to, so no way back leads through them.
-fn on_itself(
-    clear: &[u16; area::MOST_GATES],
-    pins: &[u16; placing::PIN_ENTRIES],
-    counts: &[u16; area::MOST_GATES],
-    n: usize,
-    gates: usize,
-    gate: usize,
-) -> bool
-    requires gate_lt_gates { (gate < gates) × (gates ≤ most_gates) × Tables n pins.now counts.now × ((j i : ℕ) → j < gates
-        → Reads (sources_of pins.now counts.now) n j i → i < gates) }
-    requires clear_len { (length clear.now ≡ most_gates) × Clear (sources_of pins.now counts.now) n clear.now }
-    ensures { Answers (sources_of pins.now counts.now) n gate result }
+// Marks are numbers and no bools: they begin as the places of gates, and specs/Marks.antt `Room`, `Marked`, `Clear` say them so.
+fn on_itself(clear: &[u16; area::MOST_GATES], sources: Sources, gates: usize, gate: usize) -> bool
+    requires gate_lt_gates { (gate < gates) × (gates ≤ most_gates) × LentTables sources × ((j i : ℕ) → j < gates
+        → Reads (lent_sources sources) sources.inputs j i → i < gates) }
+    requires clear_len { (length clear.now ≡ most_gates) × Clear (lent_sources sources) sources.inputs clear.now }
+    ensures { Answers (lent_sources sources.entry) sources.entry.inputs gate result }
 {
     if clear[gate] != 0 {
         return false;
@@ -105,8 +100,8 @@ fn on_itself(
     pile[0] = gate as u16;
     let mut top = 1;
     while top > 0 {
-        let at = pile[top - 1] as usize;
-        top = mark_gate(&mut marks, &mut pile, top - 1, pins, counts, n, at);
+        let at = usize::from(pile[top - 1]);
+        top = mark_gate(&mut marks, &mut pile, top - 1, sources, at);
     }
     marks[gate] != 0
 }
@@ -114,24 +109,22 @@ fn on_itself(
 // The first gate that depends on itself is refused at its line.
 fn first_loop(
     place: &[u16; area::MOST_GATES],
-    pins: &[u16; placing::PIN_ENTRIES],
-    counts: &[u16; area::MOST_GATES],
-    n: usize,
+    sources: Sources,
     gates: usize,
     numbers: &[u16],
 ) -> Result<(), Refusal>
-    requires gates_le_most_gates { (gates ≤ most_gates) × (n + gates ≤ length numbers.now) × Tables n pins.now counts.now }
-    requires by_index { (j i : ℕ) → j < gates → Reads (sources_of pins.now counts.now) n j i → i < gates }
-    requires place_len { (length place.now ≡ most_gates) × Clear (sources_of pins.now counts.now) n place.now }
-    ensures { result ≡ loop_fault (sources_of pins.now counts.now) n gates (λ (j : ℕ). get_or numbers.now (n + j) 0) }
+    requires gates_le_most_gates { (gates ≤ most_gates) × (sources.inputs + gates ≤ length numbers.now) × LentTables sources }
+    requires by_index { (j i : ℕ) → j < gates → Reads (lent_sources sources) sources.inputs j i → i < gates }
+    requires place_len { (length place.now ≡ most_gates) × Clear (lent_sources sources) sources.inputs place.now }
+    ensures { result ≡ loop_fault (lent_sources sources.entry) sources.entry.inputs gates (λ (j : ℕ). get_or numbers.now (sources.entry.inputs + j) 0) }
 {
     let mut clear = *place;
     let mut j = 0;
     while j < gates {
-        if on_itself(&clear, pins, counts, n, gates, j) {
+        if on_itself(&clear, sources, gates, j) {
             return Err(Refusal {
                 cause: Cause::TextModel,
-                place: names::line(numbers, n + j),
+                place: names::line(numbers, sources.inputs + j),
             });
         }
         clear[j] = 1;
@@ -144,22 +137,20 @@ fn first_loop(
 pub fn order_gates(
     place: &mut [u16; area::MOST_GATES],
     order: &mut [u16; area::MOST_GATES],
-    pins: &[u16; placing::PIN_ENTRIES],
-    counts: &[u16; area::MOST_GATES],
-    n: usize,
+    sources: Sources,
     gates: usize,
     numbers: &[u16],
 ) -> Result<(), Refusal>
-    requires gates_le_most_gates { (gates ≤ most_gates) × (n + gates ≤ length numbers.now) × Tables n pins.now counts.now }
-    requires by_index { (j i : ℕ) → j < gates → Reads (sources_of pins.now counts.now) n j i → i < gates }
-    requires kept { Kept (sources_of pins.now counts.now) n gates 0 place.old order.old }
-    ensures value { result ≡ loop_fault (sources_of pins.now counts.now) n gates (λ (j : ℕ). get_or numbers.now (n + j) 0) }
-    ensures placed { result ≡ Fine → Placed (sources_of pins.now counts.now) n gates place.old gates place.new
+    requires gates_le_most_gates { (gates ≤ most_gates) × (sources.inputs + gates ≤ length numbers.now) × LentTables sources }
+    requires by_index { (j i : ℕ) → j < gates → Reads (lent_sources sources) sources.inputs j i → i < gates }
+    requires kept { Kept (lent_sources sources) sources.inputs gates 0 place.old order.old }
+    ensures value { result ≡ loop_fault (lent_sources sources.entry) sources.entry.inputs gates (λ (j : ℕ). get_or numbers.now (sources.entry.inputs + j) 0) }
+    ensures placed { result ≡ Fine → Placed (lent_sources sources.entry) sources.entry.inputs gates place.old gates place.new
         order.new }
 {
-    let placed = placing::place_all(place, order, pins, counts, n, gates);
+    let placed = placing::place_all(place, order, sources, gates);
     if placed == gates {
         return Ok(());
     }
-    first_loop(place, pins, counts, n, gates, numbers)
+    first_loop(place, sources, gates, numbers)
 }

@@ -80,6 +80,11 @@ module _ (t s l nm nl : List ℕ) (start many count : ℕ) (src : start + many �
           let own : k - count < many = omega arith in
           subst (λ (x : ℕ). get_or (sets nm count (run s)) x 0 < length t) sum (rw (put s nm src room (k - count) own) (places (k - count) own))
 
+-- no run is put in
+pub entered-none : (t s l nm nl : List ℕ) (start many count : ℕ) → many ≡ 0 → Collected t nm nl count (held t s l start many) nm nl count
+entered-none t s l nm nl start many count e =
+    rw e (record { words = sym (append-nil (held t nm nl 0 count)); counted = sym (add-zero count); long = refl; wide = refl; inside = λ old. old })
+
 -- what is known while the lines from word k on are still to come
 pub record Collecting (t s l : List ℕ) (n : ℕ) (wanted : Keyword) (nm₀ nl₀ : List ℕ) (from : ℕ) (nm nl : List ℕ) (count k : ℕ) : Type 0 where
   pub words : held t nm nl 0 count ++ listed wanted (lines_from t s l n k) ≡ held t nm₀ nl₀ 0 from ++ listed wanted (lines_from t s l n 0)

@@ -1,7 +1,8 @@
 -- Tables of names: entry k of one has where name k starts, entry k of the other its line.
-use Rattle.std.specs.Prelude.{ℕ, ◌+◌, ◌-◌, ◌<◌, cond, List, ◌++◌, ◌≡◌, length, get_or, drop}
-use Rattle.texts.specs.Words.{Word, held, word_of}
-use Rattle.statements.specs.Lines.{Line, line_of, lines_of, bytes_from, alike}
+use Rattle.std.specs.Prelude.{ℕ, ◌+◌, ◌-◌, ◌<◌, ◌≤◌, cond, List, ◌++◌, ◌≡◌, length, get_or, drop}
+use Rattle.texts.specs.Words.{Word, held, word_of, most_words}
+use Rattle.names.specs.declared.Words.{Words}
+use Rattle.statements.specs.Lines.{Line, line_of, lines_of, bytes_from, alike, PlacesTo}
 use Rattle.statements.specs.Fit.{keyword_of}
 use Rattle.statements.specs.declared.Keyword.{Keyword}
 use Rattle.model.specs.Model.{same_key, gates_key, GateText, cover_of, gates_of, no_gate}
@@ -43,3 +44,13 @@ gate_from text starts lines n h =
 pub record Heads (text starts lines : List ℕ) (n : ℕ) (heads : List ℕ) (count : ℕ) : Type 0 where
   pub inside : (j : ℕ) → j < count → get_or heads j 0 < n
   pub each : (j : ℕ) → j < count → gate_from text starts lines n (get_or heads j 0) ≡ get_or (gates_of (lines_from text starts lines n 0)) j no_gate
+
+-- words of a text that are lent: no more of them than a text has; their lines from word k on; the keyword that word k is
+abbrev pub LentFew : Words → Type 0
+LentFew w = PlacesTo w w.count × (w.count ≤ length w.lines.now) × (w.count ≤ most_words)
+
+abbrev pub lines_in : Words → ℕ → List Line
+lines_in w k = lines_from w.text.now w.starts.now w.lines.now w.count k
+
+abbrev pub key_in : Words → ℕ → Keyword
+key_in w k = key_at w.text.now w.starts.now k

@@ -1,14 +1,17 @@
 -- Laws of names and of equal byte strings. Assumes nothing.
 use Prim.Native.Nat.{ℕ, suc, ◌+◌, ◌-◌, ◌<◌, ◌≤◌}
 use mathlib.Core.Path.{◌≡◌, refl, ap, sym, ◌∙◌}
-use mathlib.Core.Bool.{Bool, true, false}
+use mathlib.Core.Bool.{Bool, true, false, cond, ◌&&◌}
+use lib.Pointwise.{pointwise}
+use Rattle.std.specs.List.{list_all}
+use Rattle.std.specs.Cmp.Lexicographic.{same_text}
 use mathlib.Core.List.{List, [], ◌∷◌}
 use native.Mathlib.Numerals.{add-one}
 use native.Mathlib.Omega.{arith}
-use lib.ListN.{length, get_or, take, drop, drop_of_length-le, length-drop}
-use lib.Seq.{drop-cons, get_or-take, get_or-drop}
+use lib.ListN.{length, get_or, take, drop, length-drop}
+use lib.Seq.{get_or-take, get_or-drop}
 use lib.Dec.{eqb, leb}
-use borrow.Author.Tests.{eq-eqb, ne_eqb, eqb-true, leb-true}
+use borrow.Author.Tests.{eq-eqb, ne_eqb, leb-true}
 use Rattle.texts.specs.Words.{word_of, after, in_word, joins, blank}
 use Rattle.names.specs.Names.{same, name_byte, name_bytes, before, name_at}
 
@@ -29,16 +32,24 @@ word-short (b ∷ s) = go (in_word (after b (get_or s 0 0))) refl (word-short s)
     go true e ih = rw e (omega arith)
     go false e ih = rw e (omega arith)
 
+-- both tests as the library says them
+pub and-is : (q x y : Bool) → x ≡ y → cond q x false ≡ (q && y)
+and-is true x y e = e
+and-is false x y e = refl
+
+pub same-is : (s t : List ℕ) → same s t ≡ pointwise eqb s t
+same-is [] [] = refl
+same-is [] (b ∷ t) = refl
+same-is (a ∷ s) [] = refl
+same-is (a ∷ s) (b ∷ t) = and-is (eqb a b) (same s t) (pointwise eqb s t) (same-is s t)
+
+pub name_bytes-is : (s : List ℕ) → name_bytes s ≡ list_all name_byte s
+name_bytes-is [] = refl
+name_bytes-is (b ∷ s) = and-is (name_byte b) (name_bytes s) (list_all name_byte s) (name_bytes-is s)
+
 -- equal strings
 pub same-equal : (s t : List ℕ) → same s t ≡ true → s ≡ t
-same-equal [] [] e = refl
-same-equal [] (b ∷ t) e = cc
-same-equal (a ∷ s) [] e = cc
-same-equal (a ∷ s) (b ∷ t) e = go (eqb a b) refl (same-equal s t)
-  where
-    go : (q : Bool) → eqb a b ≡ q → (same s t ≡ true → s ≡ t) → (a ∷ s) ≡ (b ∷ t)
-    go true p ih = rw (eqb-true a b p, ih (rw p at e))
-    go false p ih = let z : ◌≡◌ {A = Bool} true false = sym (rw p at e) in cc
+same-equal s t e = same_text s t (sym (sym (same-is s t) ∙ e))
 
 pub same_refl : (s : List ℕ) → same s s ≡ true
 same_refl [] = refl
@@ -118,42 +129,10 @@ goes_on text w start h n = go (same (word_of (drop start text)) w) refl
 pub text-short : (s w : List ℕ) → length s < length w → same (word_of s) w ≡ false
 text-short s w h = not_same (word_of s) w (λ e. omega (arith, word-short s))
 
-module _ (s t : List ℕ) (i : ℕ) where
-  pub same_more : i < length s → i < length t → get_or s i 0 ≡ get_or t i 0 → same (drop i s) (drop i t) ≡ same (drop (i + 1) s) (drop (i + 1) t)
-  same_more hs ht e = rw (drop-cons s i 0, drop-cons t i 0, eq-eqb _ _ e, add-one)
-
-  pub same_stop : i < length s → i < length t → (get_or s i 0 ≡ get_or t i 0 → ⊥) → same (drop i s) (drop i t) ≡ false
-  same_stop hs ht n = rw (drop-cons s i 0, drop-cons t i 0, ne_eqb _ _ n)
-
-  pub same_end : length s ≤ i → length t ≤ i → same (drop i s) (drop i t) ≡ true
-  same_end hs ht = rw (drop_of_length-le s hs, drop_of_length-le t ht)
-
-module _ (s : List ℕ) (i : ℕ) where
-  pub name-more : i < length s → name_byte (get_or s i 0) ≡ true → name_bytes (drop i s) ≡ name_bytes (drop (i + 1) s)
-  name-more h e = rw (drop-cons s i 0, e, add-one)
-
-  pub name-stop : i < length s → name_byte (get_or s i 0) ≡ false → name_bytes (drop i s) ≡ false
-  name-stop h e = rw (drop-cons s i 0, e)
-
-  pub name-end : length s ≤ i → name_bytes (drop i s) ≡ true
-  name-end h = rw (drop_of_length-le s h)
-
 -- looking a name up
 module _ (text starts w : List ℕ) (many i : ℕ) (here : i < many) where
-  pub find-here : same (name_at text starts i) w ≡ true → before text starts w i (many - i) ≡ 0
-  find-here e = rw (one, e)
-    where
-      one : many - i ≡ suc (many - (i + 1))
-      one = omega arith
-
   pub find-later : same (name_at text starts i) w ≡ false → before text starts w i (many - i) ≡ suc (before text starts w (i + 1) (many - (i + 1)))
   find-later e = rw (one, e, add-one)
     where
       one : many - i ≡ suc (many - (i + 1))
       one = omega arith
-
-pub find_none : (text starts w : List ℕ) (many i : ℕ) → many ≤ i → before text starts w i (many - i) ≡ 0
-find_none text starts w many i past = rw none
-  where
-    none : many - i ≡ 0
-    none = omega arith

@@ -1,6 +1,7 @@
 -- Names: which words are names, and when two are the same.
-use Rattle.std.specs.Prelude.{ℕ, zero, suc, Bool, true, false, cond, List, [], ◌∷◌, length, get_or, drop, eqb, leb}
+use Rattle.std.specs.Prelude.{ℕ, zero, suc, Bool, true, false, cond, List, ◌<◌, [], ◌∷◌, length, get_or, drop, eqb, leb}
 use Rattle.texts.specs.Words.{word_of}
+use Rattle.names.specs.declared.Words.{Words}
 
 -- two byte strings are equal
 abbrev pub same : List ℕ → List ℕ → Bool
@@ -31,3 +32,10 @@ name_at text starts k = word_of (drop (get_or starts k 0) text)
 abbrev pub before : List ℕ → List ℕ → List ℕ → ℕ → ℕ → ℕ
 before text starts w i zero = 0
 before text starts w i (suc k) = cond (same (name_at text starts i) w) 0 (suc (before text starts w (suc i) k))
+
+-- words of a text that are lent: word k starts inside it, and its bytes
+abbrev pub HasWord : Words → ℕ → Type 0
+HasWord w k = (k < length w.starts.now) × (get_or w.starts.now k 0 < length w.text.now)
+
+abbrev pub name_of : Words → ℕ → List ℕ
+name_of w k = name_at w.text.now w.starts.now k

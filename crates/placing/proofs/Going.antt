@@ -21,6 +21,11 @@ begin S n g place order gate kept e =
     let all : left place g ≡ g = omega (arith, kept.count) in
     record { kept = kept; said = rw all refl; next = e; listed = rw all refl }
 
+-- the same, said of the gate that the search found
+pub at_found : {S : ℕ → List ℕ} {n g : ℕ} {start : List ℕ} {q : ℕ} {place order : List ℕ} {gate found : ℕ}
+    → Going S n g start q place order gate → found ≡ passed S n place 0 g → Going S n g start q place order found
+at_found going e = record { kept = going.kept; said = going.said; next = e; listed = going.listed }
+
 module _ (S : ℕ → List ℕ) (n g : ℕ) (start : List ℕ) (q : ℕ) (place order : List ℕ) (gate : ℕ)
     (going : Going S n g start q place order gate) (within : g ≤ 1024) where
   module _ (inside : gate < g) where

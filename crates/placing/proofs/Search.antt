@@ -14,32 +14,17 @@ use Rattle.placing.specs.Placing.{placed_source, all_placed, ready, passed, plac
 one_less : (n i : ℕ) → i < n → n - i ≡ suc (n - (i + 1))
 one_less n i h = omega arith
 
-none_left : (n i : ℕ) → n ≤ i → n - i ≡ 0
-none_left n i h = omega arith
+module _ (n : ℕ) (place pins : List ℕ) (end i : ℕ) (here : i < end) where
+  pub placed-more : placed_source n place (get_or pins i 0) ≡ true
+      → all_placed n place (entries pins i (end - i)) ≡ all_placed n place (entries pins (i + 1) (end - (i + 1)))
+  placed-more e = rw (one_less end i here, e, add-one)
 
-module _ (n : ℕ) (place pins : List ℕ) (start many i : ℕ) where
-  pub placed-more : i < many → placed_source n place (get_or pins (start + i) 0) ≡ true
-      → all_placed n place (entries pins (start + i) (many - i)) ≡ all_placed n place (entries pins (start + (i + 1)) (many - (i + 1)))
-  placed-more h e = rw (one_less many i h, e, shift)
-    where
-      shift : suc (start + i) ≡ start + (i + 1)
-      shift = omega arith
-
-  pub placed-stop : i < many → placed_source n place (get_or pins (start + i) 0) ≡ false → all_placed n place (entries pins (start + i) (many - i)) ≡ false
-  placed-stop h e = rw (one_less many i h, e)
-
-  pub placed_end : many ≤ i → all_placed n place (entries pins (start + i) (many - i)) ≡ true
-  placed_end h = rw (none_left many i h)
+  pub placed-stop : placed_source n place (get_or pins i 0) ≡ false → all_placed n place (entries pins i (end - i)) ≡ false
+  placed-stop e = rw (one_less end i here, e)
 
 module _ (S : ℕ → List ℕ) (n : ℕ) (place : List ℕ) (g j : ℕ) where
-  pub next_here : j < g → ready S n place j ≡ true → passed S n place j (g - j) ≡ 0
-  next_here h e = rw (one_less g j h, e)
-
   pub next-later : j < g → ready S n place j ≡ false → passed S n place j (g - j) ≡ suc (passed S n place (j + 1) (g - (j + 1)))
   next-later h e = rw (one_less g j h, e, add-one)
-
-  pub next-none : g ≤ j → passed S n place j (g - j) ≡ 0
-  next-none h = rw (none_left g j h)
 
 -- what the search finds is ready
 pub found-ready : (S : ℕ → List ℕ) (n : ℕ) (place : List ℕ) (j k : ℕ) → passed S n place j k < k → ready S n place (j + passed S n place j k) ≡ true

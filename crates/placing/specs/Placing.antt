@@ -6,6 +6,7 @@ use mathlib.Core.List.{List, [], ◌∷◌, Memᴰ}
 use Rattle.area.specs.Layout.{most_pins, most_inputs, most_gates}
 use Rattle.refusal.specs.Judgement.{Judgement}
 use Rattle.refusal.specs.Judgement.{refuse_unless, lowest}
+use Rattle.placing.specs.declared.Sources.{Sources}
 use Rattle.refusal.specs.declared.Cause.TheVariants.{TextModel}
 
 -- a source is placed: an input, or a placed gate
@@ -99,6 +100,13 @@ pub record Tables (n : ℕ) (pins counts : List ℕ) : Type 0 where
   pub few : n ≤ most_inputs
   pub many : (j : ℕ) → get_or counts j 0 ≤ most_pins
   pub known : (k : ℕ) → get_or pins k 0 < n + most_gates
+
+-- the same of tables that are lent
+abbrev pub lent_sources : Sources → ℕ → List ℕ
+lent_sources s = sources_of s.pins.now s.counts.now
+
+abbrev pub LentTables : Sources → Type 0
+LentTables s = Tables s.inputs s.pins.now s.counts.now
 
 -- gates are placed until none is ready
 pub record Placed (S : ℕ → List ℕ) (n g : ℕ) (start : List ℕ) (q : ℕ) (place order : List ℕ) : Type 0 where

@@ -3,3 +3,4 @@ pub mod Trailer
 pub mod Passes
 pub mod Netlist
 pub mod Whole
+pub mod Pins

@@ -1,30 +1,23 @@
 // The records of an image, written into bytes.
 #![tactic(auto)]
 
-ghost use Rattle.std.specs.Prelude.{◌≡◌, [], ◌∷◌, ◌+◌, ◌/◌, ◌%◌, ◌<◌, ◌≤◌, length};
+ghost use Rattle.std.specs.Prelude.{◌≡◌, ℕ, ◌+◌, ◌<◌, ◌≤◌, length, get_or};
 ghost use Rattle.std.proofs.lemmas.List.Edits.{sets};
 ghost use Rattle.image.specs.Image.{record_bytes, trailer_bytes};
-ghost use Rattle.records.specs.Bytes.{two_bytes, record_of, trailer_of};
+ghost use Rattle.records.specs.Bytes.{two_bytes, long_bytes, record_of, trailer_of};
 
-// A number below 256, and the bytes of larger ones.
-fn byte(x: usize) -> u8
-    requires { x < 256 }
-    ensures { result ≡ x }
-{
-    x as u8
-}
-
-fn low(x: usize) -> u8
-    ensures { result ≡ x % 256 }
-{
-    byte(x % 256)
-}
-
-fn high(x: usize) -> u8
+fn two_bytes(x: usize) -> [u8; 2]
     requires { x < 65_536 }
-    ensures { result ≡ x / 256 }
+    ensures { result ≡ two_bytes x }
 {
-    byte(x / 256)
+    (x as u16).to_le_bytes()
+}
+
+fn long_bytes(x: usize) -> [u8; 4]
+    requires { x < 4_294_967_296 }
+    ensures { result ≡ long_bytes x }
+{
+    (x as u32).to_le_bytes()
 }
 
 // Stores bytes from `base` on.
@@ -32,11 +25,7 @@ fn store(bytes: &mut [u8], base: usize, values: &[u8])
     requires { base + length values.now ≤ length bytes.old }
     ensures { bytes.new ≡ sets bytes.old base values.now }
 {
-    let mut i = 0;
-    while i < values.len() {
-        bytes[base + i] = values[i];
-        i += 1;
-    }
+    bytes[base..base + values.len()].copy_from_slice(values);
 }
 
 // An output word.
@@ -44,8 +33,7 @@ pub fn write_output(bytes: &mut [u8], at: usize, source: usize)
     requires { (at + 2 ≤ length bytes.old) × (source < 65_536) }
     ensures { bytes.new ≡ sets bytes.old at (two_bytes source) }
 {
-    let word = [low(source), high(source)];
-    store(bytes, at, &word[..]);
+    store(bytes, at, &two_bytes(source));
 }
 
 // A gate's record.
@@ -56,38 +44,18 @@ pub fn write_record(
     kind: u8,
     field: [u8; 8],
     table: usize,
-    p: usize,
-    q: usize,
-    r: usize,
-    s: usize,
+    pins: [usize; area::MOST_PINS],
 )
     requires record_bytes_in_bounds { at + record_bytes ≤ length bytes.old }
-    requires count_bound { (count < 256) × (table < 65_536) × (p < 65_536) × (q < 65_536) × (r < 65_536) × (s < 65_536) }
-    ensures { bytes.new ≡ sets bytes.old at (record_of count kind table (p ∷ q ∷ r ∷ s ∷ []) field) }
+    requires count_bound { (count < 256) × (table < 65_536) × ((i : ℕ) → get_or pins i 0 < 65_536) }
+    ensures { bytes.new ≡ sets bytes.old at (record_of count kind table pins field) }
 {
-    let record = [
-        byte(count),
-        kind,
-        low(table),
-        high(table),
-        low(p),
-        high(p),
-        low(q),
-        high(q),
-        low(r),
-        high(r),
-        low(s),
-        high(s),
-        field[0],
-        field[1],
-        field[2],
-        field[3],
-        field[4],
-        field[5],
-        field[6],
-        field[7],
-    ];
-    store(bytes, at, &record[..]);
+    store(bytes, at, &[count as u8, kind]);
+    store(bytes, at + 2, &two_bytes(table));
+    for (i, pin) in pins.iter().enumerate() {
+        store(bytes, at + 4 + 2 * i, &two_bytes(*pin));
+    }
+    store(bytes, at + 12, &field);
 }
 
 // The trailer of an image with an empty heading.
@@ -97,24 +65,10 @@ pub fn write_trailer(bytes: &mut [u8], at: usize, inputs: usize, gates: usize, o
     ensures { bytes.new ≡ sets bytes.old at (trailer_of inputs gates outputs) }
 {
     let back = image::RECORD_BYTES * gates + image::OUTPUT_BYTES * outputs;
-    let total = back + image::TRAILER_BYTES;
-    let trailer = [
-        low(inputs),
-        high(inputs),
-        low(gates),
-        high(gates),
-        low(outputs),
-        high(outputs),
-        1,
-        0,
-        low(back),
-        low(back / 256),
-        low(back / 65_536),
-        byte(back / 16_777_216),
-        low(total),
-        low(total / 256),
-        low(total / 65_536),
-        byte(total / 16_777_216),
-    ];
-    store(bytes, at, &trailer[..]);
+    store(bytes, at, &two_bytes(inputs));
+    store(bytes, at + 2, &two_bytes(gates));
+    store(bytes, at + 4, &two_bytes(outputs));
+    store(bytes, at + 6, &two_bytes(1));
+    store(bytes, at + 8, &long_bytes(back));
+    store(bytes, at + 12, &long_bytes(back + image::TRAILER_BYTES));
 }

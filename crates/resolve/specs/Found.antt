@@ -3,6 +3,8 @@ use Rattle.std.specs.Prelude.{ℕ, ◌+◌, ◌*◌, ◌<◌, ◌≤◌, List, m
 use Rattle.area.specs.Layout.{most_pins, most_gates}
 use Rattle.texts.specs.Words.{Word, word_of}
 use Rattle.names.specs.Names.{before}
+use Rattle.names.specs.declared.Words.{Words}
+use Rattle.statements.specs.Lines.{Places}
 use Rattle.placing.specs.Placing.{sources_of}
 use Rattle.model.specs.Model.{number, sources}
 use Rattle.model.specs.Tables.{rest_at, gate_from}
@@ -45,3 +47,13 @@ pub record Headed (lines : List ℕ) (n : ℕ) (heads : List ℕ) (count : ℕ) 
 pub record Clear (pins counts : List ℕ) : Type 0 where
   pub no_pin : (i : ℕ) → get_or pins i 0 ≡ 0
   pub no_count : (j : ℕ) → get_or counts j 0 ≡ 0
+
+-- the names that a text defines, lent beside words of the same text: they are places of it, and their numbers fit 16 bits
+pub record Defined (names words : Words) : Type 0 where
+  pub same_text : names.text.now ≡ words.text.now
+  pub places : Places words.text.now names.starts.now names.count
+  pub few : names.count < 65_536
+
+-- the number of the name that word k is
+abbrev pub found_in : Words → Words → ℕ → ℕ
+found_in names words k = found_at words.text.now names.starts.now names.count words.starts.now k

@@ -6,39 +6,36 @@ ghost use Rattle.refusal.specs.Judgement.{Fine};
 ghost use Rattle.refusal.specs.Judgement.{lowest};
 ghost use Rattle.area.specs.Layout.{most_pins, most_gates};
 ghost use Rattle.texts.specs.Words.{held};
-ghost use Rattle.statements.specs.Lines.{Places};
+ghost use Rattle.names.specs.Names.{HasWord};
+ghost use Rattle.statements.specs.Lines.{PlacesTo, Lent};
 ghost use Rattle.model.specs.Model.{sources};
 ghost use Rattle.model.specs.Tables.{rest_at, gate_from};
 ghost use Rattle.resolve.specs.Names.{again_fault, unknown_fault};
-ghost use Rattle.resolve.specs.Found.{found_at, Found, Sources, Headed, Room, Clear};
+ghost use Rattle.resolve.specs.Found.{found_in, Defined, Found, Sources, Headed, Room, Clear};
 
+use names::Words;
 use refusal::{Cause, Refusal};
 
-// The number of the first of `many` names that word k is; `many` if none is.
-fn find_word(text: &[u8], names: &[u16], many: usize, starts: &[u16], k: usize) -> usize
-    requires places { Places text.now names.now many }
-    requires k_in_bounds { (k < length starts.now) × (get_or starts.now k 0 < length text.now) }
-    ensures { (result ≡ found_at text.now names.now many starts.now k) × (result ≤ many) }
+// The number of the first of the names that word k is; their count if none is.
+fn find_word(names: &Words, words: &Words, k: usize) -> usize
+    requires defined { Defined names.now words.now }
+    requires k_in_bounds { HasWord words.now k }
+    ensures { (result ≡ found_in names.now words.now k) × (result ≤ names.now.count) }
 {
-    names::find(
-        text,
-        names,
-        many,
-        names::word(text, names::entry(starts, k)),
-    )
+    names::find(names, words.word(k))
 }
 
 // A name that is defined twice is refused at the line that defines it again.
-pub fn judge_again(text: &[u8], names: &[u16], numbers: &[u16], many: usize) -> Result<(), Refusal>
-    requires { Places text.now names.now many × (many ≤ length numbers.now) }
-    ensures { result ≡ again_fault (held text.now names.now numbers.now 0 many) }
+pub fn judge_again(names: &Words) -> Result<(), Refusal>
+    requires { Lent names.now }
+    ensures { result ≡ again_fault (held names.now.text.now names.now.starts.now names.now.lines.now 0 names.now.count) }
 {
     let mut i = 0;
-    while i < many {
-        if find_word(text, names, many, names, i) != i {
+    while i < names.count {
+        if names::find(names, names.word(i)) != i {
             return Err(Refusal {
                 cause: Cause::TextModel,
-                place: names::line(numbers, i),
+                place: names.line(i),
             });
         }
         i += 1;
@@ -48,31 +45,28 @@ pub fn judge_again(text: &[u8], names: &[u16], numbers: &[u16], many: usize) -> 
 
 // Looks up the `count` words from `start` on; an undefined name is refused at its line. The numbers go into a table from `base` on.
 pub fn resolve(
-    text: &[u8],
-    names: &[u16],
-    many: usize,
-    starts: &[u16],
-    lines: &[u16],
+    names: &Words,
+    words: &Words,
     start: usize,
     count: usize,
     table: &mut [u16],
     base: usize,
 ) -> Result<(), Refusal>
-    requires places { Places text.now names.now many × (many < 65_536) }
-    requires places_2 { Places text.now starts.now (start + count) × (start + count ≤ length lines.now) }
+    requires defined { Defined names.now words.now }
+    requires places_2 { PlacesTo words.now (start + count) × (start + count ≤ length words.now.lines.now) }
     requires count_in_bounds { base + count ≤ length table.old }
-    ensures by_index { (ls : List ℕ) → result ≡ unknown_fault (held text.now names.now ls 0 many)
-        (held text.now starts.now lines.now start count) }
-    ensures found { result ≡ Fine → Found text.now names.now many starts.now start count table.old
+    ensures by_index { (ls : List ℕ) → result ≡ unknown_fault (held words.now.text.now names.now.starts.now ls 0 names.now.count)
+        (held words.now.text.now words.now.starts.now words.now.lines.now start count) }
+    ensures found { result ≡ Fine → Found words.now.text.now names.now.starts.now names.now.count words.now.starts.now start count table.old
         table.new base }
 {
     let mut i = 0;
     while i < count {
-        let number = find_word(text, names, many, starts, start + i);
-        if number == many {
+        let number = find_word(names, words, start + i);
+        if number == names.count {
             return Err(Refusal {
                 cause: Cause::TextModel,
-                place: names::line(lines, start + i),
+                place: words.line(start + i),
             });
         }
         table[base + i] = number as u16;
@@ -81,80 +75,52 @@ pub fn resolve(
     Ok(())
 }
 
-// The sources of one gate, whose line begins with word `head` of n.
+// The sources of one gate, whose line begins with word `head`.
 fn resolve_gate(
-    text: &[u8],
-    names: &[u16],
-    many: usize,
-    starts: &[u16],
-    lines: &[u16],
-    n: usize,
+    names: &Words,
+    words: &Words,
     head: usize,
     gate: usize,
     pins: &mut [u16],
     counts: &mut [u16],
 ) -> Result<(), Refusal>
-    requires places { Places text.now names.now many × (many < 65_536) }
-    requires places_2 { Places text.now starts.now n × (n ≤ length lines.now) }
-    requires head_lt_n { (head < n) × (1 ≤ rest_at lines.now n head) × (rest_at lines.now n head ≤ most_pins + 1) }
+    requires defined { Defined names.now words.now }
+    requires lent { Lent words.now }
+    requires head_lt_n { (head < words.now.count) × (1 ≤ rest_at words.now.lines.now words.now.count head)
+        × (rest_at words.now.lines.now words.now.count head ≤ most_pins + 1) }
     requires gate_lt_most_gates { (gate < most_gates) × Room pins.old counts.old }
-    ensures by_index { (ls : List ℕ) → result ≡ unknown_fault (held text.now names.now ls 0 many)
-        (sources (gate_from text.now starts.now lines.now n head)) }
-    ensures found { result ≡ Fine → Found text.now names.now many starts.now (head + 1)
-        (rest_at lines.now n head - 1) pins.old pins.new (most_pins * gate) }
-    ensures counts_after { counts.new ≡ set counts.old gate (rest_at lines.now n head - 1) }
+    ensures by_index { (ls : List ℕ) → result ≡ unknown_fault (held words.now.text.now names.now.starts.now ls 0 names.now.count)
+        (sources (gate_from words.now.text.now words.now.starts.now words.now.lines.now words.now.count head)) }
+    ensures found { result ≡ Fine → Found words.now.text.now names.now.starts.now names.now.count words.now.starts.now (head + 1)
+        (rest_at words.now.lines.now words.now.count head - 1) pins.old pins.new (most_pins * gate) }
+    ensures counts_after { counts.new ≡ set counts.old gate (rest_at words.now.lines.now words.now.count head - 1) }
 {
-    let count = statements::line_rest(lines, head, n) - 1;
+    let count = statements::line_rest(words, head) - 1;
     counts[gate] = count as u16;
-    resolve(
-        text,
-        names,
-        many,
-        starts,
-        lines,
-        head + 1,
-        count,
-        pins,
-        area::MOST_PINS * gate,
-    )
+    resolve(names, words, head + 1, count, pins, area::MOST_PINS * gate)
 }
 
 // The sources of each gate in turn, four entries a gate.
 pub fn resolve_gates(
-    text: &[u8],
-    names: &[u16],
-    many: usize,
-    starts: &[u16],
-    lines: &[u16],
-    n: usize,
+    names: &Words,
+    words: &Words,
     heads: &[u16],
     gates: usize,
     pins: &mut [u16],
     counts: &mut [u16],
 ) -> Result<(), Refusal>
-    requires places { Places text.now names.now many × (many < 65_536) }
-    requires places_2 { Places text.now starts.now n × (n ≤ length lines.now) }
-    requires gates_le_most_gates { (gates ≤ most_gates) × (gates ≤ length heads.now) × Headed lines.now n heads.now gates }
+    requires defined { Defined names.now words.now }
+    requires lent { Lent words.now }
+    requires gates_le_most_gates { (gates ≤ most_gates) × (gates ≤ length heads.now) × Headed words.now.lines.now words.now.count heads.now gates }
     requires room { Room pins.old counts.old × Clear pins.old counts.old }
-    ensures by_index { (ls : List ℕ) → result ≡ lowest (λ (j : ℕ). unknown_fault (held text.now names.now ls 0 many)
-        (sources (gate_from text.now starts.now lines.now n (get_or heads.now j 0)))) gates }
-    ensures sources { result ≡ Fine → (ls : List ℕ) → Sources (held text.now names.now ls 0 many)
-        text.now starts.now lines.now n heads.now pins.new counts.new gates }
+    ensures by_index { (ls : List ℕ) → result ≡ lowest (λ (j : ℕ). unknown_fault (held words.now.text.now names.now.starts.now ls 0 names.now.count)
+        (sources (gate_from words.now.text.now words.now.starts.now words.now.lines.now words.now.count (get_or heads.now j 0)))) gates }
+    ensures sources { result ≡ Fine → (ls : List ℕ) → Sources (held words.now.text.now names.now.starts.now ls 0 names.now.count)
+        words.now.text.now words.now.starts.now words.now.lines.now words.now.count heads.now pins.new counts.new gates }
 {
     let mut j = 0;
     while j < gates {
-        resolve_gate(
-            text,
-            names,
-            many,
-            starts,
-            lines,
-            n,
-            names::entry(heads, j),
-            j,
-            pins,
-            counts,
-        )?;
+        resolve_gate(names, words, names::entry(heads, j), j, pins, counts)?;
         j += 1;
     }
     Ok(())

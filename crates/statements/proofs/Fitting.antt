@@ -1,11 +1,11 @@
 -- Laws of fitting lines. Assumes nothing.
-use Prim.Native.Nat.{ℕ, ◌+◌, ◌<◌, ◌≤◌}
-use mathlib.Core.Path.{◌≡◌}
+use Prim.Native.Nat.{ℕ}
+use mathlib.Core.Path.{◌≡◌, refl}
+use Rattle.std.specs.List.{list_all}
+use Rattle.names.proofs.Names.{and-is}
 use mathlib.Core.Bool.{Bool, true, false}
 use mathlib.Core.List.{List, [], ◌∷◌}
-use native.Mathlib.Numerals.{add-one}
-use lib.ListN.{length, get_or, drop, drop_of_length-le}
-use lib.Seq.{drop-cons}
+use lib.ListN.{length, get_or}
 use borrow.Author.Tests.{eq-eqb, ne_eqb}
 use Rattle.std.specs.Prelude.{Option, Some, None}
 use Rattle.names.specs.Names.{same}
@@ -52,15 +52,10 @@ module _ (w : List ℕ) where
   unfolding value_of
   is-neither e f = simp (e, f)
 
-module _ (s : List ℕ) (i : ℕ) where
-  pub row_more : i < length s → row_byte (get_or s i 0) ≡ true → row_bytes (drop i s) ≡ row_bytes (drop (i + 1) s)
-  row_more h e = rw (drop-cons s i 0, e, add-one)
-
-  pub row-stop : i < length s → row_byte (get_or s i 0) ≡ false → row_bytes (drop i s) ≡ false
-  row-stop h e = rw (drop-cons s i 0, e)
-
-  pub row-end : length s ≤ i → row_bytes (drop i s) ≡ true
-  row-end h = rw (drop_of_length-le s h)
+-- the test of every byte as the library says it
+pub row_bytes-is : (s : List ℕ) → row_bytes s ≡ list_all row_byte s
+row_bytes-is [] = refl
+row_bytes-is (b ∷ s) = and-is (row_byte b) (row_bytes s) (list_all row_byte s) (row_bytes-is s)
 
 -- cover lines
 module _ (width : ℕ) (ending : Option Bool) (ws : List (List ℕ)) where

@@ -35,36 +35,14 @@ pub places-less : {t s : List ℕ} {n m : ℕ} → Places t s n → m ≤ n → 
 places-less p h = record { within = omega (arith, p.within); inside = λ k lt. p.inside k (omega arith) }
 
 -- names among the words of a table
-module _ (t s : List ℕ) (start many i : ℕ) where
-  pub names_more : i < many → is_name (word_of (drop (get_or s (start + i) 0) t)) ≡ true
-      → all_names (bytes_from t s (start + i) (many - i)) ≡ all_names (bytes_from t s (start + (i + 1)) (many - (i + 1)))
-  names_more h e = rw (one_less many i h, e, shift)
-    where
-      shift : suc (start + i) ≡ start + (i + 1)
-      shift = omega arith
-
-  pub names-stop : i < many → is_name (word_of (drop (get_or s (start + i) 0) t)) ≡ false → all_names (bytes_from t s (start + i) (many - i)) ≡ false
-  names-stop h e = rw (one_less many i h, e)
-
-  pub names-end : many ≤ i → all_names (bytes_from t s (start + i) (many - i)) ≡ true
-  names-end h = rw none
-    where
-      none : many - i ≡ 0
-      none = omega arith
+module _ (t s : List ℕ) (end i : ℕ) (here : i < end) where
+  pub names_more : is_name (word_of (drop (get_or s i 0) t)) ≡ true → all_names (bytes_from t s i (end - i)) ≡ all_names (bytes_from t s (i + 1) (end - (i + 1)))
+  names_more e = rw (one_less end i here, e, add-one)
 
 -- words of one line
 module _ (l : List ℕ) (x n i : ℕ) where
   pub alike-more : i < n → get_or l i 0 ≡ x → alike l x i (n - i) ≡ suc (alike l x (i + 1) (n - (i + 1)))
   alike-more h e = rw (one_less n i h, eq-eqb _ _ e, add-one)
-
-  pub alike-stop : i < n → (get_or l i 0 ≡ x → ⊥) → alike l x i (n - i) ≡ 0
-  alike-stop h e = rw (one_less n i h, ne_eqb _ _ e)
-
-  pub alike_end : n ≤ i → alike l x i (n - i) ≡ 0
-  alike_end h = rw none
-    where
-      none : n - i ≡ 0
-      none = omega arith
 
 pub alike-short : (l : List ℕ) (x i k : ℕ) → alike l x i k ≤ k
 alike-short l x i zero = omega arith

@@ -1,6 +1,7 @@
 -- The lines of a text that have words: words with one line number stand in one line.
 use Rattle.std.specs.Prelude.{ℕ, zero, suc, ◌<◌, ◌≤◌, cond, List, [], ◌∷◌, length, get_or, drop, eqb}
 use Rattle.texts.specs.Words.{Word, word_of}
+use Rattle.names.specs.declared.Words.{Words}
 
 pub record Line : Type 0 where
   pub number : ℕ
@@ -41,3 +42,13 @@ alike lines x i (suc k) = cond (eqb (get_or lines i 0) x) (suc (alike lines x (s
 pub record Places (text starts : List ℕ) (n : ℕ) : Type 0 where
   pub within : n ≤ length starts
   pub inside : (k : ℕ) → k < n → get_or starts k 0 < length text
+
+-- words of a text that are lent: n of them have places, all of them have places and lines; the bytes of k words from word i on
+abbrev pub PlacesTo : Words → ℕ → Type 0
+PlacesTo w n = Places w.text.now w.starts.now n
+
+abbrev pub Lent : Words → Type 0
+Lent w = PlacesTo w w.count × (w.count ≤ length w.lines.now)
+
+abbrev pub bytes_of : Words → ℕ → ℕ → List (List ℕ)
+bytes_of w i k = bytes_from w.text.now w.starts.now i k

@@ -1,15 +1,13 @@
 -- What is known of the words entered so far while a text is read. Assumes nothing.
 use Prim.Native.Nat.{ℕ, ◌+◌, ◌*◌, ◌<◌, ◌≤◌}
-use mathlib.Core.Path.{◌≡◌, refl, sym, ◌∙◌}
-use mathlib.Core.Bool.{Bool, true, false, cond}
-use mathlib.Core.List.{List, [], ◌++◌, append-nil, append_assoc}
-use native.Mathlib.Nat.{add-zero}
+use mathlib.Core.Path.{◌≡◌, ◌∙◌}
+use mathlib.Core.Bool.{cond}
+use mathlib.Core.List.{List, [], ◌++◌, append_assoc}
 use native.Mathlib.Omega.{arith}
-use lib.ListN.{length, get_or, drop, drop_of_length-le}
-use Rattle.texts.specs.Words.{most_bytes, most_words, Tables, Noted, Read, step, in_word, begins, words_from, words_of, line_feeds, held, state_after}
+use lib.ListN.{length, get_or, drop}
+use Rattle.texts.specs.Words.{Tables, Noted, step, in_word, begins, words_from, words_of, line_feeds, held}
 use Rattle.texts.specs.declared.State.{State}
-use Rattle.texts.specs.declared.Place.TheVariants.{Gap}
-use Rattle.texts.proofs.Words.{here, words_step, words-end, feeds, bound, room}
+use Rattle.texts.proofs.Words.{here, words_step, feeds, bound, room}
 
 -- the text before `at` is read, n words of it are entered, and st is the state there
 pub record Reading (t s l : List ℕ) (st : State) (at n : ℕ) : Type 0 where
@@ -21,19 +19,6 @@ pub record Reading (t s l : List ℕ) (st : State) (at n : ℕ) : Type 0 where
   pub low_here : st.here ≤ at + 1
   pub low_line : st.line ≤ at + 1
   pub inside : (k : ℕ) → k < n → get_or s k 0 < length t
-
-pub start : (t s l : List ℕ) → Tables s l → Reading t s l (state_after Gap 1 1) 0 0
-start t s l tables =
-    record {
-      tables = tables;
-      within = omega arith;
-      words = refl;
-      feed = refl;
-      apart = omega arith;
-      low_here = omega arith;
-      low_line = omega arith;
-      inside = λ k lt. omega arith;
-    }
 
 module _ (t s l s' l' : List ℕ) (st : State) (at n n' : ℕ) (r : Reading t s l st at n) (more : at < length t) where
   pub turn : (next : State)
@@ -52,22 +37,4 @@ module _ (t s l s' l' : List ℕ) (st : State) (at n n' : ℕ) (r : Reading t s 
         low_here = rw e b.0;
         low_line = rw e b.1;
         inside = noted.inside more r.inside;
-      }
-
-module _ (t s l : List ℕ) (st : State) (at n : ℕ) (r : Reading t s l st at n) (short : length t ≤ most_bytes) where
-  pub few : n ≤ most_words
-  few = bit (in_word st.place) r.apart
-    where
-      bit : (b : Bool) → 2 * n ≤ at + cond b 1 0 → n ≤ most_words
-      bit true h = omega (arith, r.within)
-      bit false h = omega (arith, r.within)
-
-  pub finish : length t ≤ at → Read t s l n st.here
-  finish past =
-      record {
-        tables = r.tables;
-        words = rw (words-end t at past st, append-nil) at r.words;
-        last_line = sym (add-zero st.here) ∙ (rw (drop_of_length-le t past) at r.feed);
-        few = few;
-        inside = r.inside;
       }

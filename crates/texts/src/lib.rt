@@ -26,47 +26,34 @@ pub struct State {
     pub line: usize,
 }
 
+#[tactic(auto, unfolding(crate::specs::Words::after, crate::specs::Words::joins, crate::specs::Words::blank))]
 fn after(b: u8, next: u8) -> Place
     ensures { result ≡ after b next }
 {
-    if b == 10 {
-        return Place::Gap;
+    match b {
+        b'\n' => Place::Gap,
+        b'#' => Place::Comment,
+        b'\\' if next == b'\n' => Place::Joint,
+        b' ' | b'\t' | b'\r' => Place::Gap,
+        _ => Place::Inside,
     }
-    if b == 35 {
-        return Place::Comment;
-    }
-    if b == 92 {
-        if next == 10 {
-            return Place::Joint;
-        }
-        return Place::Inside;
-    }
-    if b == 32 {
-        return Place::Gap;
-    }
-    if b == 9 {
-        return Place::Gap;
-    }
-    if b == 13 {
-        return Place::Gap;
-    }
-    Place::Inside
 }
 
 // The state after the byte b outside a comment, with the byte after it.
-fn outside(here: usize, line: usize, b: u8, next: u8) -> State
-    requires { here < 65535 }
-    ensures { result ≡ outside here line b next }
+fn outside(st: State, b: u8, next: u8) -> State
+    requires { st.here < 65535 }
+    ensures { result ≡ outside st.here st.line b next }
 {
     let place = after(b, next);
-    if b == 10 {
-        return State {
+    if b == b'\n' {
+        State {
             place,
-            here: here + 1,
-            line: here + 1,
-        };
+            here: st.here + 1,
+            line: st.here + 1,
+        }
+    } else {
+        State { place, ..st }
     }
-    State { place, here, line }
 }
 
 // The state after the byte b, with the byte after it.
@@ -74,40 +61,23 @@ fn step(st: State, b: u8, next: u8) -> State
     requires { st.here < 65535 }
     ensures { result ≡ step st b next }
 {
-    let here = st.here;
-    let line = st.line;
-    let place = st.place;
-    match place {
-        Place::Gap => outside(here, line, b, next),
-        Place::Inside => outside(here, line, b, next),
-        Place::Comment => {
-            if b == 10 {
-                return State {
-                    place: Place::Gap,
-                    here: here + 1,
-                    line: here + 1,
-                };
-            }
-            State {
-                place: Place::Comment,
-                here,
-                line,
-            }
-        }
-        Place::Joint => {
-            if b == 10 {
-                return State {
-                    place: Place::Gap,
-                    here: here + 1,
-                    line,
-                };
-            }
-            State {
-                place: Place::Gap,
-                here,
-                line,
-            }
-        }
+    match st.place {
+        Place::Gap | Place::Inside => outside(st, b, next),
+        Place::Comment if b == b'\n' => State {
+            place: Place::Gap,
+            here: st.here + 1,
+            line: st.here + 1,
+        },
+        Place::Comment => st,
+        Place::Joint if b == b'\n' => State {
+            place: Place::Gap,
+            here: st.here + 1,
+            ..st
+        },
+        Place::Joint => State {
+            place: Place::Gap,
+            ..st
+        },
     }
 }
 
@@ -115,42 +85,34 @@ fn step(st: State, b: u8, next: u8) -> State
 fn byte(text: &[u8], at: usize) -> u8
     ensures { result ≡ get_or text.now at 0 }
 {
-    if at < text.len() { text[at] } else { 0 }
+    text.get(at).copied().unwrap_or(0)
 }
 
 // The byte after a backslash. What stands after any other byte makes no difference to it, and is not read.
+#[tactic(auto, unfolding(crate::specs::Words::after, crate::specs::Words::joins))]
 fn ahead(text: &[u8], at: usize) -> u8
     requires { at < length text.now }
     ensures { after (get_or text.now at 0) result ≡ after (get_or text.now at 0) (get_or text.now (at + 1) 0) }
 {
-    if text[at] == 92 {
-        return byte(text, at + 1);
+    if text[at] == b'\\' {
+        byte(text, at + 1)
+    } else {
+        0
     }
-    0
 }
 
 // A byte belongs to a word where the place after it is inside one.
 fn in_word(place: Place) -> bool
     ensures { result ≡ in_word place }
 {
-    match place {
-        Place::Gap => false,
-        Place::Inside => true,
-        Place::Comment => false,
-        Place::Joint => false,
-    }
+    matches!(place, Place::Inside)
 }
 
 // A word starts where the byte before belongs to none, and the byte belongs to one.
 fn begins(place: Place, next: Place) -> bool
     ensures { result ≡ begins place next }
 {
-    match place {
-        Place::Gap => in_word(next),
-        Place::Inside => false,
-        Place::Comment => false,
-        Place::Joint => false,
-    }
+    matches!(place, Place::Gap) && in_word(next)
 }
 
 // The byte at a place belongs to a word, where no comment goes over it.
@@ -166,14 +128,12 @@ pub fn word_end(text: &[u8], start: usize) -> usize
     requires { start ≤ length text.now }
     ensures { result ≡ start + length (word_of (drop start text.now)) }
 {
-    let mut at = start;
-    while at < text.len() {
+    for at in start..text.len() {
         if !word_at(text, at) {
             return at;
         }
-        at += 1;
     }
-    at
+    text.len()
 }
 
 // How many words a text has, and the number of its last line.
@@ -218,15 +178,11 @@ pub fn read_words(
         here: 1,
         line: 1,
     };
-    let mut at = 0;
     let mut n = 0;
-    while at < text.len() {
+    for at in 0..text.len() {
         let next = step(st, text[at], ahead(text, at));
-        let place = st.place;
-        let next_place = next.place;
-        n = note(starts, lines, n, begins(place, next_place), at, st.line);
+        n = note(starts, lines, n, begins(st.place, next.place), at, st.line);
         st = next;
-        at += 1;
     }
     Found {
         count: n,

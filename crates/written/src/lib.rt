@@ -21,10 +21,12 @@ fn write_gate(area: &[u32], gate: usize, image: &mut [u8])
     let units = area::flip(area, gate);
     let count = area::pin_count(area, gate);
     let table = area::index(area::table(area, gate));
-    let first = area::pin(area, gate, 0);
-    let second = area::pin(area, gate, 1);
-    let third = area::pin(area, gate, 2);
-    let fourth = area::pin(area, gate, 3);
+    let pins = [
+        area::pin(area, gate, 0),
+        area::pin(area, gate, 1),
+        area::pin(area, gate, 2),
+        area::pin(area, gate, 3),
+    ];
     records::write_record(
         image,
         image::RECORD_BYTES * gate,
@@ -32,10 +34,7 @@ fn write_gate(area: &[u32], gate: usize, image: &mut [u8])
         flips::units_kind(units),
         flips::units_field(units),
         table,
-        first,
-        second,
-        third,
-        fourth,
+        pins,
     );
 }
 

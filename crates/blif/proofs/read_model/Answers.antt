@@ -3,29 +3,19 @@ use mathlib.Core.Path.{sym, ◌∙◌}
 use lib.ListN.{length}
 use Rattle.model.specs.Tables.{lines_from}
 use Rattle.blif.specs.Reading.{model_length, image_over}
-use Rattle.blif.proofs.Chain.{stops, goes_on}
+use Rattle.blif.proofs.Chain.{goes_on}
 use Rattle.model.specs.Counts.{count_fault}
 use Rattle.blif.specs.Stages.{names_refusal}
 use Rattle.blif.proofs.Counting.{within, in_a_row-refusal}
 use Rattle.blif.proofs.read_model.Goals as goal
 
-pub judge_counts-requires : goal.judge_counts-requires
-judge_counts-requires c = c.requires.words
-
 pub read_names-requires : goal.read_names-requires
 read_names-requires c =
-    let a = c.args in record { words = c.requires.words.0; within = (within (lines_from a.text.now a.starts.now a.lines.now a.n 0) (sym c.judge_counts.ensures ∙ c.in_ok-judge_counts.was), c.requires.fitting) }
+    let a = c.args in record { words = c.requires.words.0; within = (within (lines_from a.words.now.text.now a.words.now.starts.now a.words.now.lines.now a.words.now.count 0) (sym c.judge_counts.ensures ∙ c.in_ok-judge_counts.was), c.requires.fitting) }
 
 pub returns : goal.returns
 returns c =
     let a = c.args in
-    let ls = lines_from a.text.now a.starts.now a.lines.now a.n 0 in rw (in_a_row-refusal ls (length a.image.now))
+    let ls = lines_from a.words.now.text.now a.words.now.starts.now a.words.now.lines.now a.words.now.count 0 in rw (in_a_row-refusal ls (length a.image.now))
     (let all = goes_on (count_fault ls) (names_refusal ls (length a.image.now)) (model_length ls) (image_over ls a.image.now) a.image.now _ _
     (sym c.judge_counts.ensures ∙ c.in_ok-judge_counts.was) (c.read_names.ensures.value, c.read_names.ensures.image_after) in record { value = all.0; image_after = all.1 })
-
-pub returns-in_err-judge_counts : goal.returns-in_err-judge_counts
-returns-in_err-judge_counts c =
-    let a = c.args in
-    let ls = lines_from a.text.now a.starts.now a.lines.now a.n 0 in rw (in_a_row-refusal ls (length a.image.now))
-    (let all = stops (count_fault ls) (names_refusal ls (length a.image.now)) (model_length ls) _ (image_over ls a.image.now) a.image.now _
-    (sym c.judge_counts.ensures ∙ c.in_err-judge_counts.was) c.from_residual.ensures.1 in record { value = all.0; image_after = all.1 })

@@ -8,8 +8,8 @@ use Rattle.covers.proofs.cover_rows.Given as goal
 
 abbrev pub invariant-loop-k : goal.invariant-loop-k
 invariant-loop-k l =
-    (l.k ≤ l.n) × (bit_or l.rows (table_of l.width (some_meets (cover_of (lines_from l.text l.starts l.lines l.n l.k)))) ≡ table_of l.width (some_meets (cover_of (lines_from l.text l.starts l.lines l.n l.from))))
+    (l.k ≤ l.words.count) × (bit_or l.rows (table_of l.width (some_meets (cover_of (lines_from l.words.text.now l.words.starts.now l.words.lines.now l.words.count l.k)))) ≡ table_of l.width (some_meets (cover_of (lines_from l.words.text.now l.words.starts.now l.words.lines.now l.words.count l.from))))
 
 abbrev pub decreases-loop-k : goal.decreases-loop-k
 decreases-loop-k l =
-    l.n - l.k
+    l.words.count - l.k

@@ -3,13 +3,10 @@ use Rattle.model.proofs.Keys.{keys-differ, keys-alike}
 use Prim.Native.Nat.{ℕ, ◌≤◌, ◌<◌}
 use mathlib.Core.Path.{◌≡◌, refl, ap, sym, ◌∙◌}
 use native.Mathlib.Omega.{arith}
-use Rattle.model.specs.Model.{cover_of}
 use Rattle.model.specs.Tables.{rest_at}
-use Rattle.model.proofs.Runs.{shorter, lines_end}
+use Rattle.model.proofs.Runs.{shorter}
 use mathlib.Core.Logic.{⊎_elim}
 use native.Mathlib.Nat.{eq-or-lt_of_le}
-use mathlib.Core.List.{List}
-use Rattle.statements.specs.Lines.{Line}
 use Rattle.covers.specs.Cover.{ending_of}
 use Rattle.covers.proofs.Cover.{cover-over, ends-in}
 use Rattle.covers.proofs.ending.Goals as goal
@@ -17,43 +14,28 @@ use Rattle.covers.proofs.ending.Goals as goal
 below : (x m : ℕ) → x ≤ m → (x ≡ m → ⊥) → x < m
 below x m l e = ⊎_elim (λ (q : x ≡ m). absurd (e q)) (λ (q : x < m). q) (eq-or-lt_of_le {n = x} {m = m} l)
 
-pub returns-then-from-n : goal.returns-then-from-n
-returns-then-from-n c =
-    let a = c.args in
-    sym (ap (λ (ls : List Line). ending_of (cover_of ls)) (lines_end a.text.now a.starts.now a.lines.now a.n a.from (omega arith)))
-
-pub key_at-requires : goal.key_at-requires
-key_at-requires c =
-    let a = c.args in
-    let low = below a.from a.n c.requires.3 c.if-from-n.false in
-    (omega (arith, c.requires.0.within), c.requires.0.inside _ low)
-
 pub returns-then-ne : goal.returns-then-ne
 returns-then-ne c =
     let a = c.args in
-    let low = below a.from a.n c.requires.3 c.if-from-n.false in
-    sym (ap ending_of (cover-over a.text.now a.starts.now a.lines.now a.n a.from (rest_at a.lines.now a.n a.from) low refl (λ e. keys-differ _ _ (sym c.ne.ensures ∙ c.if-ne.true) (c.key_at.ensures ∙ e))))
-
-pub line_rest-requires : goal.line_rest-requires
-line_rest-requires c =
-    (below c.args.from c.args.n c.requires.3 c.if-from-n.false, c.requires.1)
+    let low = below a.from a.words.now.count c.requires.1 c.if-from-words.false in
+    sym (ap ending_of (cover-over a.words.now.text.now a.words.now.starts.now a.words.now.lines.now a.words.now.count a.from (rest_at a.words.now.lines.now a.words.now.count a.from) low refl (λ e. keys-differ _ _ (sym c.ne.ensures ∙ c.if-ne.true) (c.key_at.ensures ∙ e))))
 
 pub overflow_add-from : goal.overflow_add-from
 overflow_add-from c =
     let a = c.args in
-    let low = below a.from a.n c.requires.3 c.if-from-n.false in
-    omega (arith, c.requires.2, shorter a.text.now a.starts.now a.lines.now a.n a.from c.line_rest.result low c.line_rest.ensures)
+    let low = below a.from a.words.now.count c.requires.1 c.if-from-words.false in
+    omega (arith, c.requires.0.2, shorter a.words.now.text.now a.words.now.starts.now a.words.now.lines.now a.words.now.count a.from c.line_rest.result low c.line_rest.ensures)
 
 pub value_at-requires : goal.value_at-requires
 value_at-requires c =
     let a = c.args in
-    let low = below a.from a.n c.requires.3 c.if-from-n.false in
-    let short = shorter a.text.now a.starts.now a.lines.now a.n a.from c.line_rest.result low c.line_rest.ensures in
-    (omega (arith, short, c.requires.0.within), c.requires.0.inside _ (omega (arith, short)))
+    let low = below a.from a.words.now.count c.requires.1 c.if-from-words.false in
+    let short = shorter a.words.now.text.now a.words.now.starts.now a.words.now.lines.now a.words.now.count a.from c.line_rest.result low c.line_rest.ensures in
+    (omega (arith, short, c.requires.0.0.within), c.requires.0.0.inside _ (omega (arith, short)))
 
 pub returns : goal.returns
 returns c =
     let a = c.args in
-    let low = below a.from a.n c.requires.3 c.if-from-n.false in
+    let low = below a.from a.words.now.count c.requires.1 c.if-from-words.false in
     c.value_at.ensures
-    ∙ sym (ends-in a.text.now a.starts.now a.lines.now a.n a.from c.line_rest.result low c.line_rest.ensures (sym c.key_at.ensures ∙ keys-alike _ _ (sym c.ne.ensures ∙ c.if-ne.false)))
+    ∙ sym (ends-in a.words.now.text.now a.words.now.starts.now a.words.now.lines.now a.words.now.count a.from c.line_rest.result low c.line_rest.ensures (sym c.key_at.ensures ∙ keys-alike _ _ (sym c.ne.ensures ∙ c.if-ne.false)))

@@ -1,39 +1,19 @@
 -- `loops::first_loop` meets its contract. Assumes nothing.
 use Prim.Native.Nat.{ℕ, ◌+◌}
-use mathlib.Core.Path.{refl, sym, ◌∙◌}
+use mathlib.Core.Path.{sym, ◌∙◌}
 use native.Mathlib.Omega.{arith}
 use lib.ListN.{get_or, length-set}
 use Rattle.placing.specs.Placing.{sources_of}
 use Rattle.loops.proofs.First.{answered, search-stops, search-on, search-ends, cleared}
 use Rattle.loops.proofs.first_loop.Goals as goal
 
-pub loop-j-init : goal.loop-j-init
-loop-j-init c =
-    (omega arith, refl, c.requires.place_len.0, c.requires.place_len.1)
-
-pub on_itself-requires : goal.on_itself-requires
-on_itself-requires c =
-    let l = c.loop-j in record { gate_lt_gates = (c.loop-j-test.true, c.requires.gates_le_most_gates.0, c.requires.gates_le_most_gates.2, c.requires.by_index); clear_len = (l.invariant.2, l.invariant.3) }
-
-pub overflow_add-n : goal.overflow_add-n
-overflow_add-n c =
-    omega (arith, c.requires.gates_le_most_gates.0, c.requires.gates_le_most_gates.1, c.loop-j-test.true)
-
-pub line-requires : goal.line-requires
-line-requires c =
-    omega (arith, c.requires.gates_le_most_gates.1, c.loop-j-test.true)
-
 pub returns-then-on_itself : goal.returns-then-on_itself
 returns-then-on_itself c =
     let l = c.loop-j in
     let inside = c.loop-j-test.true in
     let asked = c.on_itself in
-    search-stops (sources_of c.args.pins.now c.args.counts.now) c.args.n c.args.gates c.requires.by_index (λ (i : ℕ). get_or c.args.numbers.now (c.args.n + i) 0) l.j c.line.result inside l.invariant.1
-    (sym (answered (sources_of c.args.pins.now c.args.counts.now) c.args.n c.args.gates c.requires.by_index l.j asked.result inside asked.ensures) ∙ c.if-on_itself.true) c.line.ensures
-
-pub bounds-clear-j : goal.bounds-clear-j
-bounds-clear-j c =
-    omega (arith, c.requires.gates_le_most_gates.0, c.loop-j-test.true)
+    search-stops (sources_of c.args.sources.pins.now c.args.sources.counts.now) c.args.sources.inputs c.args.gates c.requires.by_index (λ (i : ℕ). get_or c.args.numbers.now (c.args.sources.inputs + i) 0) l.j c.line.result inside l.invariant.1
+    (sym (answered (sources_of c.args.sources.pins.now c.args.sources.counts.now) c.args.sources.inputs c.args.gates c.requires.by_index l.j asked.result inside asked.ensures) ∙ c.if-on_itself.true) c.line.ensures
 
 pub loop-j-preserved : goal.loop-j-preserved
 loop-j-preserved c =
@@ -41,13 +21,13 @@ loop-j-preserved c =
     let inside = c.loop-j-test.true in
     let asked = c.on_itself in (
       omega arith,
-      search-on (sources_of c.args.pins.now c.args.counts.now) c.args.n c.args.gates c.requires.by_index (λ (i : ℕ). get_or c.args.numbers.now (c.args.n + i) 0) l.j l.invariant.1
-          (sym (answered (sources_of c.args.pins.now c.args.counts.now) c.args.n c.args.gates c.requires.by_index l.j asked.result inside asked.ensures) ∙ c.if-on_itself.false),
+      search-on (sources_of c.args.sources.pins.now c.args.sources.counts.now) c.args.sources.inputs c.args.gates c.requires.by_index (λ (i : ℕ). get_or c.args.numbers.now (c.args.sources.inputs + i) 0) l.j l.invariant.1
+          (sym (answered (sources_of c.args.sources.pins.now c.args.sources.counts.now) c.args.sources.inputs c.args.gates c.requires.by_index l.j asked.result inside asked.ensures) ∙ c.if-on_itself.false),
       rw length-set l.invariant.2,
-      cleared (sources_of c.args.pins.now c.args.counts.now) c.args.n c.args.gates c.requires.by_index l.clear l.j asked.result l.invariant.3 asked.ensures c.if-on_itself.false,
+      cleared (sources_of c.args.sources.pins.now c.args.sources.counts.now) c.args.sources.inputs c.args.gates c.requires.by_index l.clear l.j asked.result l.invariant.3 asked.ensures c.if-on_itself.false,
     )
 
 pub returns : goal.returns
 returns c =
     let l = c.loop-j in
-    search-ends (sources_of c.args.pins.now c.args.counts.now) c.args.n c.args.gates c.requires.by_index (λ (i : ℕ). get_or c.args.numbers.now (c.args.n + i) 0) l.j (omega (arith, c.loop-j-test.false)) l.invariant.1
+    search-ends (sources_of c.args.sources.pins.now c.args.sources.counts.now) c.args.sources.inputs c.args.gates c.requires.by_index (λ (i : ℕ). get_or c.args.numbers.now (c.args.sources.inputs + i) 0) l.j (omega (arith, c.loop-j-test.false)) l.invariant.1

@@ -1,10 +1,6 @@
 -- `loops::mark_one` meets its contract. Assumes nothing.
-use Rattle.loops.proofs.Marks.{marked-input, marked-seen, marked-new, roomy}
+use Rattle.loops.proofs.Marks.{marked-new, roomy}
 use Rattle.loops.proofs.mark_one.Goals as goal
-
-pub returns-then-source-n : goal.returns-then-source-n
-returns-then-source-n c =
-    marked-input c.args.n c.args.source c.args.marks.now c.args.pile.now c.args.top c.requires.0 c.if-source-n.true
 
 pub bounds-pile-top : goal.bounds-pile-top
 bounds-pile-top c =
@@ -13,7 +9,3 @@ bounds-pile-top c =
 pub returns-then-marks-gate-eq0 : goal.returns-then-marks-gate-eq0
 returns-then-marks-gate-eq0 c =
     marked-new c.args.n c.args.source c.args.marks.now c.args.pile.now c.args.top c.requires.0 c.if-source-n.false c.requires.2 c.if-marks-gate-eq0.true
-
-pub returns : goal.returns
-returns c =
-    marked-seen c.args.n c.args.source c.args.marks.now c.args.pile.now c.args.top c.requires.0 c.if-source-n.false c.requires.2 c.if-marks-gate-eq0.false

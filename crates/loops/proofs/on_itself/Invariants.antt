@@ -6,7 +6,7 @@ use Rattle.loops.proofs.on_itself.Given as goal
 
 abbrev pub invariant-loop-top : goal.invariant-loop-top
 invariant-loop-top l =
-    Tracing (sources_of l.pins l.counts) l.n l.gates l.gate l.clear l.marks l.pile l.top
+    Tracing (sources_of l.sources.pins.now l.sources.counts.now) l.sources.inputs l.gates l.gate l.clear l.marks l.pile l.top
 
 abbrev pub decreases-loop-top : goal.decreases-loop-top
 decreases-loop-top l = 2 * unseen l.marks + l.top

@@ -6,8 +6,8 @@ use Rattle.model.proofs.heads.Given as goal
 
 abbrev pub invariant-loop-k : goal.invariant-loop-k
 invariant-loop-k l =
-    (l.k ≤ l.n) × (length l.heads ≡ length l.initial.heads) × Heading l.text l.starts l.lines l.n l.heads l.count l.k
+    (l.k ≤ l.words.count) × (length l.heads ≡ length l.initial.heads) × Heading l.words.text.now l.words.starts.now l.words.lines.now l.words.count l.heads l.count l.k
 
 abbrev pub decreases-loop-k : goal.decreases-loop-k
 decreases-loop-k l =
-    l.n - l.k
+    l.words.count - l.k

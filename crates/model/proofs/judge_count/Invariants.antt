@@ -7,9 +7,9 @@ use Rattle.model.proofs.judge_count.Given as goal
 
 abbrev pub invariant-loop-k : goal.invariant-loop-k
 invariant-loop-k l =
-    (l.k ≤ l.n) × (l.left ≤ l.most)
-    × (over_fault (listed l.wanted (lines_from l.text l.starts l.lines l.n l.k)) l.left ≡ over_fault (listed l.wanted (lines_from l.text l.starts l.lines l.n 0)) l.most)
+    (l.k ≤ l.words.count) × (l.left ≤ l.most)
+    × (over_fault (listed l.wanted (lines_from l.words.text.now l.words.starts.now l.words.lines.now l.words.count l.k)) l.left ≡ over_fault (listed l.wanted (lines_from l.words.text.now l.words.starts.now l.words.lines.now l.words.count 0)) l.most)
 
 abbrev pub decreases-loop-k : goal.decreases-loop-k
 decreases-loop-k l =
-    l.n - l.k
+    l.words.count - l.k

@@ -1,10 +1,7 @@
-use Prim.Native.Nat.{◌+◌, ◌-◌, ◌≤◌}
+use Prim.Native.Nat.{◌+◌, ◌-◌}
 use mathlib.Core.Path.{◌≡◌}
 use Rattle.names.specs.Names.{before}
 use Rattle.names.proofs.find.Given as goal
 
 abbrev pub invariant-loop-k : goal.invariant-loop-k
-invariant-loop-k l = (l.k ≤ l.many) × (l.k + before l.text l.starts l.w l.k (l.many - l.k) ≡ before l.text l.starts l.w 0 l.many)
-
-abbrev pub decreases-loop-k : goal.decreases-loop-k
-decreases-loop-k l = l.many - l.k
+invariant-loop-k l = l.k + before l.names.text.now l.names.starts.now l.w l.k (l.names.count - l.k) ≡ before l.names.text.now l.names.starts.now l.w 0 l.names.count

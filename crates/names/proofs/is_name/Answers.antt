@@ -1,44 +1,22 @@
 -- `names::is_name` meets its contract. Assumes nothing.
-use Prim.Native.Nat.{◌-◌}
-use mathlib.Core.Path.{◌≡◌, refl, sym, ◌∙◌}
-use mathlib.Core.Bool.{true, false}
+use Prim.Native.Nat.{◌≤◌}
+use mathlib.Core.Path.{◌≡◌}
+use lib.ListN.{length}
 use native.Mathlib.Omega.{arith}
-use borrow.Author.Tests.{lt-leb, le-leb}
-use Rattle.names.specs.Names.{is_name, name_bytes}
-use Rattle.names.proofs.Names.{name-more, name-stop, name-end}
 use borrow.Author.Rules.{rules}
+use borrow.Author.Tests.{le-leb, tests}
+use Rattle.std.specs.List.{list_all}
+use Rattle.std.proofs.lemmas.Grind.{common_steps}
+use Rattle.std.proofs.lemmas.Iterator.{YieldsList-from_slice}
+use Rattle.std.proofs.lemmas.Iterator.Search.{all_from_yields_List}
+use Rattle.names.specs.Names.{is_name, name_byte}
+use Rattle.names.proofs.Names.{name_bytes-is}
 use Rattle.names.proofs.is_name.Goals as goal
 
-pub returns-then-w-lt1 : goal.returns-then-w-lt1
+pub returns-then-w-le-LONGEST_NAME : goal.returns-then-w-le-LONGEST_NAME
 unfolding is_name
-returns-then-w-lt1 c = simp (lt-leb _ _ c.if-w-lt1.true)
-
-pub returns-then-w-gt-LONGEST_NAME : goal.returns-then-w-gt-LONGEST_NAME
-unfolding is_name
-returns-then-w-gt-LONGEST_NAME c = simp (le-leb _ _ c.if-w-lt1.false, lt-leb _ _ c.if-w-gt-LONGEST_NAME.true)
-
-pub loop-i-init : goal.loop-i-init
-loop-i-init c = (omega arith, refl)
-
-pub returns-then-not-name_byte : goal.returns-then-not-name_byte
-unfolding is_name
-returns-then-not-name_byte c =
-    let l = c.loop-i in
-    let w = c.args.w.now in
-    let no : name_bytes w ≡ false =
-    sym l.invariant.1 ∙ name-stop w l.i (search rules) (sym c.name_byte.ensures ∙ c.if-not-name_byte.true) in
-    simp (le-leb _ _ c.if-w-lt1.false, le-leb _ _ c.if-w-gt-LONGEST_NAME.false, no)
-
-pub loop-i-preserved : goal.loop-i-preserved
-loop-i-preserved c =
-    let l = c.loop-i in
-    let w = c.args.w.now in
-    (omega arith, sym (name-more w l.i (search rules) (sym c.name_byte.ensures ∙ c.if-not-name_byte.false)) ∙ l.invariant.1)
-
-pub returns : goal.returns
-unfolding is_name
-returns c =
-    let l = c.loop-i in
-    let w = c.args.w.now in
-    let all : name_bytes w ≡ true = sym l.invariant.1 ∙ name-end w l.i (search rules) in
-    simp (le-leb _ _ c.if-w-lt1.false, le-leb _ _ c.if-w-gt-LONGEST_NAME.false, all)
+returns-then-w-le-LONGEST_NAME c =
+    let all : c.all.result ≡ list_all name_byte c.args.w.now =
+    all_from_yields_List name_byte _ _ c.all.result c.all.ensures.ran (YieldsList-from_slice c.args.w.now cc) (λ x b q k. search (rules, tests)) in
+    let some : 1 ≤ length c.args.w.now = grind (arith, common_steps) in
+    simp (le-leb _ _ some, le-leb _ _ c.if-w-le-LONGEST_NAME.true.1, name_bytes-is) all

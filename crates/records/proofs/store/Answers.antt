@@ -1,22 +1,14 @@
--- `records::store` meets its contract: after i turns the first i values are stored. Assumes nothing.
-use mathlib.Core.Path.{refl, ap, ◌∙◌}
+-- `records::store` meets its contract. Assumes nothing.
+use Prim.Native.Nat.{◌+◌, ◌-◌}
+use mathlib.Core.List.{append_assoc}
+use mathlib.Core.Path.{◌≡◌, sym}
 use native.Mathlib.Omega.{arith}
-use lib.ListN.{length-set}
-use lib.Seq.{sets, take_all}
-use Rattle.lists.proofs.Parts.{sets-turn}
+use lib.ListN.{length}
+use lib.Seq.{drop-drop, sets-eq}
 use Rattle.records.proofs.store.Goals as goal
-
-pub loop-i-init : goal.loop-i-init
-loop-i-init c = (omega arith, refl, refl)
-
-pub loop-i-preserved : goal.loop-i-preserved
-loop-i-preserved c =
-    let l = c.loop-i in
-    let a = c.args in
-    (omega arith, simp length-set l.invariant.1, sets-turn a.values.now a.bytes.now l.bytes a.base l.i (omega arith) l.invariant.2)
 
 pub returns : goal.returns
 returns c =
-    let l = c.loop-i in
     let a = c.args in
-    l.invariant.2 ∙ ap (sets a.bytes.now a.base) (take_all l.i a.values.now (omega arith))
+    let many : a.base + length a.values.now - a.base ≡ length a.values.now = omega arith in
+    rw (many, c.copy_from_slice.ensures.after, drop-drop, ← append_assoc) (sym (sets-eq a.values.now a.bytes.now a.base c.requires))

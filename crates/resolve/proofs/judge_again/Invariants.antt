@@ -9,8 +9,8 @@ use Rattle.resolve.proofs.judge_again.Given as goal
 
 abbrev pub invariant-loop-i : goal.invariant-loop-i
 invariant-loop-i l =
-    (l.i ≤ l.many) × (lowest (again_at (held l.text l.names l.numbers 0 l.many)) l.i ≡ Fine)
+    (l.i ≤ l.names.count) × (lowest (again_at (held l.names.text.now l.names.starts.now l.names.lines.now 0 l.names.count)) l.i ≡ Fine)
 
 abbrev pub decreases-loop-i : goal.decreases-loop-i
 decreases-loop-i l =
-    l.many - l.i
+    l.names.count - l.i

@@ -4,7 +4,7 @@ use Rattle.resolve.proofs.resolve.Given as goal
 
 abbrev pub invariant-loop-i : goal.invariant-loop-i
 invariant-loop-i l =
-    (l.i ≤ l.count) × Looking l.text l.names l.many l.starts l.lines l.start l.count l.initial.table l.table l.base l.i
+    (l.i ≤ l.count) × Looking l.words.text.now l.names.starts.now l.names.count l.words.starts.now l.words.lines.now l.start l.count l.initial.table l.table l.base l.i
 
 abbrev pub decreases-loop-i : goal.decreases-loop-i
 decreases-loop-i l =

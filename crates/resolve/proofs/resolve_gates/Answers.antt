@@ -1,6 +1,6 @@
 -- `resolve::resolve_gates` meets its contract. Assumes nothing.
 use Prim.Native.Nat.{ℕ}
-use mathlib.Core.Path.{◌≡◌, refl, ap, sym, ◌∙◌}
+use mathlib.Core.Path.{◌≡◌, ap, sym, ◌∙◌}
 use native.Mathlib.Omega.{arith}
 use lib.ListN.{length, get_or, length-set}
 use Rattle.refusal.proofs.Laws.{lowest-answer}
@@ -8,22 +8,9 @@ use Rattle.texts.specs.Words.{held}
 use Rattle.model.specs.Model.{sources}
 use Rattle.model.specs.Tables.{gate_from}
 use Rattle.resolve.specs.Names.{unknown_fault}
-use Rattle.resolve.proofs.Gates.{begin, turn}
+use Rattle.resolve.proofs.Gates.{turn}
 use Rattle.std.proofs.lemmas.Result.{err_from_is_err_and}
 use Rattle.resolve.proofs.resolve_gates.Goals as goal
-
-pub loop-j-init : goal.loop-j-init
-loop-j-init c =
-    (omega arith, begin _ _ _ _ _ _ _ _ _ c.requires.room.0 c.requires.room.1, refl, refl)
-
-pub entry-requires : goal.entry-requires
-entry-requires c = omega (arith, c.requires.gates_le_most_gates.1, c.loop-j-test.true)
-
-pub resolve_gate-requires : goal.resolve_gate-requires
-resolve_gate-requires c =
-    let at-loop-test = c.loop-j-test in
-    let l = c.loop-j in
-    let headed = c.requires.gates_le_most_gates.2 in record { places = c.requires.places; places_2 = c.requires.places_2; head_lt_n = rw c.entry.ensures (headed.inside l.j at-loop-test.true, (headed.fits l.j at-loop-test.true).0, (headed.fits l.j at-loop-test.true).1); gate_lt_most_gates = (omega (arith, c.requires.gates_le_most_gates.0, at-loop-test.true), l.invariant.1.room) }
 
 pub loop-j-preserved : goal.loop-j-preserved
 loop-j-preserved c =
@@ -34,7 +21,7 @@ loop-j-preserved c =
     let told = c.in_ok-resolve_gate.was in
     let e = rw c.entry.ensures at c.resolve_gate.ensures in (
       omega arith,
-      turn a.text.now a.names.now a.many a.starts.now a.lines.now a.n a.heads.now l.pins l.counts l.j l.invariant.1
+      turn a.words.now.text.now a.names.now.starts.now a.names.now.count a.words.now.starts.now a.words.now.lines.now a.words.now.count a.heads.now l.pins l.counts l.j l.invariant.1
           (omega (arith, c.requires.gates_le_most_gates.0, at-loop-test.true)) (headed.inside l.j at-loop-test.true) (headed.fits l.j at-loop-test.true).1
           _ _ (λ ls. sym told ∙ e.by_index ls) (e.found told) e.counts_after,
       (e.found told).kept.long ∙ l.invariant.2,
@@ -44,13 +31,14 @@ loop-j-preserved c =
 pub returns-in_err-resolve_gate-clause-by_index : goal.returns-in_err-resolve_gate-clause-by_index
 returns-in_err-resolve_gate-clause-by_index c =
     let l = c.loop-j in
-    let a = c.args in
+    let w = c.args.words.now in
+    let names = c.args.names.now in
     let told = c.in_err-resolve_gate.was in
     let e = rw c.entry.ensures at c.resolve_gate.ensures.by_index in
     let p = err_from_is_err_and c.from_residual.result c.from_residual.ensures.1 in rw (p.1, p.2)
-    (λ ls. lowest-answer (λ (j : ℕ). unknown_fault (held a.text.now a.names.now ls 0 a.many)
-    (sources (gate_from a.text.now a.starts.now a.lines.now a.n (get_or a.heads.now j 0))))
-    a.gates l.j _ _ c.loop-j-test.true (l.invariant.1.fine ls) (sym (e ls) ∙ told))
+    (λ ls. lowest-answer (λ (j : ℕ). unknown_fault (held w.text.now names.starts.now ls 0 names.count)
+    (sources (gate_from w.text.now w.starts.now w.lines.now w.count (get_or c.args.heads.now j 0))))
+    c.args.gates l.j _ _ c.loop-j-test.true (l.invariant.1.fine ls) (sym (e ls) ∙ told))
 
 pub returns : goal.returns
 returns c =

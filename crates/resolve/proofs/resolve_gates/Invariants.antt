@@ -6,7 +6,7 @@ use Rattle.resolve.proofs.resolve_gates.Given as goal
 
 abbrev pub invariant-loop-j : goal.invariant-loop-j
 invariant-loop-j l =
-    (l.j ≤ l.gates) × Resolving l.text l.names l.many l.starts l.lines l.n l.heads l.pins l.counts l.j × (length l.pins ≡ length l.initial.pins) × (length l.counts ≡ length l.initial.counts)
+    (l.j ≤ l.gates) × Resolving l.words.text.now l.names.starts.now l.names.count l.words.starts.now l.words.lines.now l.words.count l.heads l.pins l.counts l.j × (length l.pins ≡ length l.initial.pins) × (length l.counts ≡ length l.initial.counts)
 
 abbrev pub decreases-loop-j : goal.decreases-loop-j
 decreases-loop-j l =

@@ -5,4 +5,4 @@ use Rattle.statements.proofs.after_cover.Goals as goal
 
 pub returns-in-End : goal.returns-in-End
 returns-in-End c =
-    rw (c.in-End.is, length-bytes c.args.text.now c.args.starts.now (c.args.k + 1) c.args.rest) c.after_end.ensures
+    rw (c.in-End.is, length-bytes c.args.words.now.text.now c.args.words.now.starts.now (c.args.k + 1) c.args.rest) c.after_end.ensures

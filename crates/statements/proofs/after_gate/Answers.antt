@@ -4,23 +4,20 @@ use borrow.Author.Tests.{le-leb, lt-leb}
 use Rattle.statements.specs.Fit.{after_gate}
 use Rattle.statements.proofs.Lines.{length-bytes}
 use Rattle.statements.proofs.after_gate.Goals as goal
-
-pub returns-then-many-lt1 : goal.returns-then-many-lt1
-unfolding after_gate
-returns-then-many-lt1 c =
-    simp (length-bytes c.args.text.now c.args.starts.now c.args.from c.args.many, lt-leb _ _ c.if-many-lt1.true)
-
-pub returns-then-many-gt-MOST_NAMES : goal.returns-then-many-gt-MOST_NAMES
-unfolding after_gate
-returns-then-many-gt-MOST_NAMES c =
-    simp (length-bytes c.args.text.now c.args.starts.now c.args.from c.args.many, le-leb _ _ c.if-many-lt1.false, lt-leb _ _ c.if-many-gt-MOST_NAMES.true)
+use Rattle.statements.proofs.after_gate.Goals.{else-many-ge1-via-then-many-ge1+then-many-le-MOST_NAMES+else-all_names, else-many-ge1-via-then-many-ge1+else-many-le-MOST_NAMES, else-many-ge1-via-else-many-ge1}
 
 pub returns-then-all_names : goal.returns-then-all_names
 unfolding after_gate
 returns-then-all_names c =
-    simp (length-bytes c.args.text.now c.args.starts.now c.args.from c.args.many, le-leb _ _ c.if-many-lt1.false, le-leb _ _ c.if-many-gt-MOST_NAMES.false, (sym c.all_names.ensures ∙ c.if-all_names.true))
+    simp (length-bytes c.args.words.now.text.now c.args.words.now.starts.now c.args.from c.args.many, le-leb _ _ c.if-many-ge1.true, le-leb _ _ c.if-many-le-MOST_NAMES.true, (sym c.all_names.ensures ∙ c.if-all_names.true))
 
-pub returns-else-all_names : goal.returns-else-all_names
+pub returns-else-many-ge1 : goal.returns-else-many-ge1
 unfolding after_gate
-returns-else-all_names c =
-    simp (length-bytes c.args.text.now c.args.starts.now c.args.from c.args.many, le-leb _ _ c.if-many-lt1.false, le-leb _ _ c.if-many-gt-MOST_NAMES.false, (sym c.all_names.ensures ∙ c.if-all_names.false))
+returns-else-many-ge1 c =
+    let long = length-bytes c.args.words.now.text.now c.args.words.now.starts.now c.args.from c.args.many in
+    elim c.else-many-ge1.branch [
+      | else-many-ge1-via-then-many-ge1+then-many-le-MOST_NAMES+else-all_names w ↦
+          simp (long, le-leb _ _ w.if-many-ge1.true, le-leb _ _ w.if-many-le-MOST_NAMES.true, (sym w.all_names.ensures ∙ w.if-all_names.false))
+      | else-many-ge1-via-then-many-ge1+else-many-le-MOST_NAMES w ↦ simp (long, le-leb _ _ w.if-many-ge1.true, lt-leb _ _ w.if-many-le-MOST_NAMES.false)
+      | else-many-ge1-via-else-many-ge1 w ↦ simp (long, lt-leb _ _ w.if-many-ge1.false)
+    ]

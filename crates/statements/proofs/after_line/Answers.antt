@@ -15,50 +15,38 @@ use Rattle.statements.proofs.after_line.Goals as goal
 pub returns-then-rest-ne0 : goal.returns-then-rest-ne0
 returns-then-rest-ne0 c =
     let a = c.args in
-    let ws = bytes_from a.text.now a.starts.now a.k (a.rest + 1) in
-    let long : length ws ≡ a.rest + 1 = length-bytes a.text.now a.starts.now a.k (a.rest + 1) in
+    let ws = bytes_from a.words.now.text.now a.words.now.starts.now a.k (a.rest + 1) in
+    let long : length ws ≡ a.rest + 1 = length-bytes a.words.now.text.now a.words.now.starts.now a.k (a.rest + 1) in
     bare-many a.width a.ending ws c.if-width-eq0.true (λ e. c.if-rest-ne0.true (omega arith))
-
-pub value_at-requires : goal.value_at-requires
-value_at-requires c =
-    (omega (arith, c.requires.within), c.requires.inside _ (omega arith))
 
 pub returns-then-width-eq0 : goal.returns-then-width-eq0
 returns-then-width-eq0 c =
     let a = c.args in
-    let ws = bytes_from a.text.now a.starts.now a.k (a.rest + 1) in
-    let long : length ws ≡ a.rest + 1 = length-bytes a.text.now a.starts.now a.k (a.rest + 1) in
-    let first : get_or ws 0 [] ≡ word_of (drop (get_or a.starts.now a.k 0) a.text.now) = bytes-at a.text.now a.starts.now a.k (a.rest + 1) 0 (omega arith) ∙ rw add-zero in
+    let ws = bytes_from a.words.now.text.now a.words.now.starts.now a.k (a.rest + 1) in
+    let long : length ws ≡ a.rest + 1 = length-bytes a.words.now.text.now a.words.now.starts.now a.k (a.rest + 1) in
+    let first : get_or ws 0 [] ≡ word_of (drop (get_or a.words.now.starts.now a.k 0) a.words.now.text.now) = bytes-at a.words.now.text.now a.words.now.starts.now a.k (a.rest + 1) 0 (omega arith) ∙ rw add-zero in
     c.after_value.ensures ∙ ap (after_value a.width a.ending) (c.value_at.ensures ∙ ap value_of (sym first)) ∙ bare a.width a.ending ws c.if-width-eq0.true (omega arith)
 
 pub returns-then-rest-ne1 : goal.returns-then-rest-ne1
 returns-then-rest-ne1 c =
     let a = c.args in
-    let ws = bytes_from a.text.now a.starts.now a.k (a.rest + 1) in
-    let long : length ws ≡ a.rest + 1 = length-bytes a.text.now a.starts.now a.k (a.rest + 1) in
+    let ws = bytes_from a.words.now.text.now a.words.now.starts.now a.k (a.rest + 1) in
+    let long : length ws ≡ a.rest + 1 = length-bytes a.words.now.text.now a.words.now.starts.now a.k (a.rest + 1) in
     row-many a.width a.ending ws c.if-width-eq0.false (λ e. c.if-rest-ne1.true (omega arith))
-
-pub row_at-requires : goal.row_at-requires
-row_at-requires c =
-    (omega (arith, c.requires.within), c.requires.inside _ (omega arith))
-
-pub value_at-requires-then-row_at : goal.value_at-requires-then-row_at
-value_at-requires-then-row_at c =
-    (omega (arith, c.requires.within), c.requires.inside _ (omega arith))
 
 pub returns-then-row_at : goal.returns-then-row_at
 returns-then-row_at c =
     let a = c.args in
-    let ws = bytes_from a.text.now a.starts.now a.k (a.rest + 1) in
-    let long : length ws ≡ a.rest + 1 = length-bytes a.text.now a.starts.now a.k (a.rest + 1) in
-    let first : get_or ws 0 [] ≡ word_of (drop (get_or a.starts.now a.k 0) a.text.now) = bytes-at a.text.now a.starts.now a.k (a.rest + 1) 0 (omega arith) ∙ rw add-zero in
-    c.after_value-then-row_at.ensures ∙ ap (after_value a.width a.ending) (c.value_at-then-row_at.ensures ∙ ap value_of (sym (bytes-at a.text.now a.starts.now a.k (a.rest + 1) 1 (omega arith))))
+    let ws = bytes_from a.words.now.text.now a.words.now.starts.now a.k (a.rest + 1) in
+    let long : length ws ≡ a.rest + 1 = length-bytes a.words.now.text.now a.words.now.starts.now a.k (a.rest + 1) in
+    let first : get_or ws 0 [] ≡ word_of (drop (get_or a.words.now.starts.now a.k 0) a.words.now.text.now) = bytes-at a.words.now.text.now a.words.now.starts.now a.k (a.rest + 1) 0 (omega arith) ∙ rw add-zero in
+    c.after_value-then-row_at.ensures ∙ ap (after_value a.width a.ending) (c.value_at-then-row_at.ensures ∙ ap value_of (sym (bytes-at a.words.now.text.now a.words.now.starts.now a.k (a.rest + 1) 1 (omega arith))))
     ∙ row-right a.width a.ending ws c.if-width-eq0.false (omega arith) (ap (is_row a.width) first ∙ sym c.row_at.ensures ∙ c.if-row_at.true)
 
 pub returns : goal.returns
 returns c =
     let a = c.args in
-    let ws = bytes_from a.text.now a.starts.now a.k (a.rest + 1) in
-    let long : length ws ≡ a.rest + 1 = length-bytes a.text.now a.starts.now a.k (a.rest + 1) in
-    let first : get_or ws 0 [] ≡ word_of (drop (get_or a.starts.now a.k 0) a.text.now) = bytes-at a.text.now a.starts.now a.k (a.rest + 1) 0 (omega arith) ∙ rw add-zero in
+    let ws = bytes_from a.words.now.text.now a.words.now.starts.now a.k (a.rest + 1) in
+    let long : length ws ≡ a.rest + 1 = length-bytes a.words.now.text.now a.words.now.starts.now a.k (a.rest + 1) in
+    let first : get_or ws 0 [] ≡ word_of (drop (get_or a.words.now.starts.now a.k 0) a.words.now.text.now) = bytes-at a.words.now.text.now a.words.now.starts.now a.k (a.rest + 1) 0 (omega arith) ∙ rw add-zero in
     row-wrong a.width a.ending ws c.if-width-eq0.false (omega arith) (ap (is_row a.width) first ∙ sym c.row_at.ensures ∙ c.if-row_at.false)

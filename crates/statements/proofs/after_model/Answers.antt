@@ -4,18 +4,13 @@ use borrow.Author.Tests.{eq-eqb, ne_eqb}
 use Rattle.statements.specs.Fit.{after_model}
 use Rattle.statements.proofs.Lines.{length-bytes}
 use Rattle.statements.proofs.after_model.Goals as goal
+use Rattle.statements.proofs.after_model.Goals.{else-many-eq1-via-then-many-eq1+else-all_names, else-many-eq1-via-else-many-eq1}
 
-pub returns-then-many-ne1 : goal.returns-then-many-ne1
+pub returns-else-many-eq1 : goal.returns-else-many-eq1
 unfolding after_model
-returns-then-many-ne1 c =
-    simp (length-bytes c.args.text.now c.args.starts.now c.args.from c.args.many, ne_eqb _ _ c.if-many-ne1.true)
-
-pub returns-then-all_names : goal.returns-then-all_names
-unfolding after_model
-returns-then-all_names c =
-    simp (length-bytes c.args.text.now c.args.starts.now c.args.from c.args.many, eq-eqb _ _ c.if-many-ne1.false, (sym c.all_names.ensures ∙ c.if-all_names.true))
-
-pub returns-else-all_names : goal.returns-else-all_names
-unfolding after_model
-returns-else-all_names c =
-    simp (length-bytes c.args.text.now c.args.starts.now c.args.from c.args.many, eq-eqb _ _ c.if-many-ne1.false, (sym c.all_names.ensures ∙ c.if-all_names.false))
+returns-else-many-eq1 c =
+    let long = length-bytes c.args.words.now.text.now c.args.words.now.starts.now c.args.from c.args.many in
+    elim c.else-many-eq1.branch [
+      | else-many-eq1-via-then-many-eq1+else-all_names w ↦ simp (long, eq-eqb _ _ w.if-many-eq1.true, (sym w.all_names.ensures ∙ w.if-all_names.false))
+      | else-many-eq1-via-else-many-eq1 w ↦ simp (long, ne_eqb _ _ w.if-many-eq1.false)
+    ]

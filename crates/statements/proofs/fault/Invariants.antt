@@ -9,7 +9,7 @@ use Rattle.statements.proofs.fault.Given as goal
 
 abbrev pub invariant-loop-k : goal.invariant-loop-k
 invariant-loop-k l =
-    (l.k ≤ l.n) × (fault_from l.text l.starts l.lines l.n l.last l.phase l.k ≡ fault Before (lines_of (held l.text l.starts l.lines 0 l.n)) l.last)
+    (l.k ≤ l.words.count) × (fault_from l.words.text.now l.words.starts.now l.words.lines.now l.words.count l.last l.phase l.k ≡ fault Before (lines_of (held l.words.text.now l.words.starts.now l.words.lines.now 0 l.words.count)) l.last)
 
 abbrev pub decreases-loop-k : goal.decreases-loop-k
-decreases-loop-k l = l.n - l.k
+decreases-loop-k l = l.words.count - l.k

@@ -1,38 +1,21 @@
 -- `statements::is_row` meets its contract. Assumes nothing.
-use mathlib.Core.Path.{◌≡◌, refl, sym, ◌∙◌}
-use mathlib.Core.Bool.{true, false}
-use native.Mathlib.Omega.{arith}
-use borrow.Author.Tests.{eq-eqb, ne_eqb}
-use Rattle.statements.specs.Fit.{is_row, row_bytes}
-use Rattle.statements.proofs.Fitting.{row_more, row-stop, row-end}
+use mathlib.Core.Path.{◌≡◌}
 use borrow.Author.Rules.{rules}
+use borrow.Author.Tests.{eq-eqb, ne_eqb, tests}
+use Rattle.std.specs.List.{list_all}
+use Rattle.std.proofs.lemmas.Iterator.{YieldsList-from_slice}
+use Rattle.std.proofs.lemmas.Iterator.Search.{all_from_yields_List}
+use Rattle.statements.specs.Fit.{is_row, row_byte}
+use Rattle.statements.proofs.Fitting.{row_bytes-is}
 use Rattle.statements.proofs.is_row.Goals as goal
 
 pub returns-then-w-width : goal.returns-then-w-width
 unfolding is_row
-returns-then-w-width c = simp (ne_eqb _ _ c.if-w-width.true)
+returns-then-w-width c =
+    let all : c.all.result ≡ list_all row_byte c.args.w.now =
+    all_from_yields_List row_byte _ _ c.all.result c.all.ensures.ran (YieldsList-from_slice c.args.w.now cc) (λ x b q k. search (rules, tests)) in
+    simp (eq-eqb _ _ c.if-w-width.true, row_bytes-is) all
 
-pub loop-i-init : goal.loop-i-init
-loop-i-init c = (omega arith, refl)
-
-pub returns-then-not-row_byte : goal.returns-then-not-row_byte
+pub returns-else-w-width : goal.returns-else-w-width
 unfolding is_row
-returns-then-not-row_byte c =
-    let l = c.loop-i in
-    let w = c.args.w.now in
-    let no : row_bytes w ≡ false = sym l.invariant.1 ∙ row-stop w l.i (search rules) (sym c.row_byte.ensures ∙ c.if-not-row_byte.true) in
-    simp (eq-eqb _ _ c.if-w-width.false, no)
-
-pub loop-i-preserved : goal.loop-i-preserved
-loop-i-preserved c =
-    let l = c.loop-i in
-    let w = c.args.w.now in
-    (omega arith, sym (row_more w l.i (search rules) (sym c.row_byte.ensures ∙ c.if-not-row_byte.false)) ∙ l.invariant.1)
-
-pub returns : goal.returns
-unfolding is_row
-returns c =
-    let l = c.loop-i in
-    let w = c.args.w.now in
-    let all : row_bytes w ≡ true = sym l.invariant.1 ∙ row-end w l.i (search rules) in
-    simp (eq-eqb _ _ c.if-w-width.false, all)
+returns-else-w-width c = simp (ne_eqb _ _ c.if-w-width.false)

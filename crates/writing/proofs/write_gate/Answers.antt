@@ -14,47 +14,33 @@ use Rattle.covers.specs.Cover.{cover_table}
 use Rattle.meaning.specs.Net.{source_of}
 use Rattle.records.specs.Bytes.{record_of, no_field}
 use Rattle.writing.specs.Written.{Pinned, Placeable}
+use Rattle.records.proofs.Pins.{four_fit}
 use Rattle.writing.proofs.Pins.{mapped-length, by-pins}
 use Rattle.writing.proofs.write_gate.Goals as goal
-
-pub entry-count-requires : goal.entry-count-requires
-entry-count-requires c =
-    let p = c.requires.placeable in
-    omega (arith, p.0.counts_long, p.1)
-
-pub entry-head-requires : goal.entry-head-requires
-entry-head-requires c = c.requires.gate_in_bounds.0
-
-pub line_rest-requires : goal.line_rest-requires
-line_rest-requires c =
-    let p = c.requires in
-    (rw c.entry-head.ensures p.gate_in_bounds.1, p.words.numbered)
 
 -- the words of the line stand among n
 pub overflow_add-from : goal.overflow_add-from
 overflow_add-from c =
     let a = c.args in
     let e = c.entry-head in
-    let low : c.entry-head.result < a.n = rw e.ensures c.requires.gate_in_bounds.1 in
-    omega (arith, c.requires.words.few, shorter a.text.now a.starts.now a.lines.now a.n e.result c.line_rest.result low c.line_rest.ensures)
+    let low : c.entry-head.result < a.words.now.count = rw e.ensures c.requires.gate_in_bounds.1 in
+    omega (arith, c.requires.words.few, shorter a.words.now.text.now a.words.now.starts.now a.words.now.lines.now a.words.now.count e.result c.line_rest.result low c.line_rest.ensures)
 
 pub overflow_add-from-2 : goal.overflow_add-from-2
 overflow_add-from-2 c =
     let a = c.args in
     let e = c.entry-head in
-    let low : c.entry-head.result < a.n = rw e.ensures c.requires.gate_in_bounds.1 in
-    omega (arith, c.requires.words.few, shorter a.text.now a.starts.now a.lines.now a.n e.result c.line_rest.result low c.line_rest.ensures)
+    let low : c.entry-head.result < a.words.now.count = rw e.ensures c.requires.gate_in_bounds.1 in
+    omega (arith, c.requires.words.few, shorter a.words.now.text.now a.words.now.starts.now a.words.now.lines.now a.words.now.count e.result c.line_rest.result low c.line_rest.ensures)
 
 pub table-table-requires : goal.table-table-requires
 table-table-requires c =
     let a = c.args in
     let e = c.entry-head in
-    let low : c.entry-head.result < a.n = rw e.ensures c.requires.gate_in_bounds.1 in (
-      c.requires.words.places,
-      c.requires.words.numbered,
-      c.requires.words.few,
-      omega (arith, shorter a.text.now a.starts.now a.lines.now a.n e.result c.line_rest.result low c.line_rest.ensures),
-      rw c.entry-count.ensures (c.requires.placeable.0.counted _),
+    let low : c.entry-head.result < a.words.now.count = rw e.ensures c.requires.gate_in_bounds.1 in (
+      (c.requires.words.places, c.requires.words.numbered, c.requires.words.few),
+      omega (arith, shorter a.words.now.text.now a.words.now.starts.now a.words.now.lines.now a.words.now.count e.result c.line_rest.result low c.line_rest.ensures),
+      rw c.from-count.ensures (c.requires.placeable.0.counted _),
     )
 
 -- what each pin asks
@@ -62,67 +48,40 @@ pin-known : {inputs gate count : ℕ} {pins counts place : List ℕ} → Placeab
     → Pinned inputs pins place × (gate < most_gates) × (count ≤ most_pins)
 pin-known {gate = gate} p e = (p.0.pinned, p.1, rw e (p.0.counted gate))
 
-pub pin-first-requires : goal.pin-first-requires
-pin-first-requires c =
-    pin-known
-    c.requires.placeable
-    c.entry-count.ensures
-
-pub pin-second-requires : goal.pin-second-requires
-pin-second-requires c =
-    pin-known
-    c.requires.placeable
-    c.entry-count.ensures
-
-pub pin-third-requires : goal.pin-third-requires
-pin-third-requires c =
-    pin-known
-    c.requires.placeable
-    c.entry-count.ensures
-
-pub pin-fourth-requires : goal.pin-fourth-requires
-pin-fourth-requires c =
-    pin-known
-    c.requires.placeable
-    c.entry-count.ensures
-
 pub write_record-requires : goal.write_record-requires
 write_record-requires c =
-    let at_entry_lem = c.entry-count in
+    let at_entry_lem = c.from-count in
     let few : at_entry_lem.result ≤ most_pins = rw at_entry_lem.ensures (c.requires.placeable.0.counted _) in record {
       record_bytes_in_bounds = c.requires.record_bytes_in_bounds;
       count_bound = (
         omega arith,
         c.table-table.ensures.upper_bound,
-        c.pin-first.ensures.1,
-        c.pin-second.ensures.1,
-        c.pin-third.ensures.1,
-        c.pin-fourth.ensures.1,
+        four_fit c.pin.ensures.1 c.pin-2.ensures.1 c.pin-3.ensures.1 c.pin-4.ensures.1,
       );
     }
 
 pub returns : goal.returns
 returns c =
-    let at-pin4 = c.pin-fourth in
-    let at-pin3 = c.pin-third in
-    let at-pin2 = c.pin-second in
-    let at_pin = c.pin-first in
+    let at-pin4 = c.pin-4 in
+    let at-pin3 = c.pin-3 in
+    let at-pin2 = c.pin-2 in
+    let at_pin = c.pin in
     let a = c.args in
     let head = c.entry-head in
-    let counted = c.entry-count in
+    let counted = c.from-count in
     let line = c.line_rest in
     let last = c.table-table in
     let h = get_or a.heads.now a.gate 0 in
-    let rest : line.result ≡ rest_at a.lines.now a.n (get_or a.heads.now a.gate 0) =
-    line.ensures ∙ ap (rest_at a.lines.now a.n) head.ensures in
+    let rest : line.result ≡ rest_at a.words.now.lines.now a.words.now.count (get_or a.heads.now a.gate 0) =
+    line.ensures ∙ ap (rest_at a.words.now.lines.now a.words.now.count) head.ensures in
     let past : head.result + line.result + 1
-    ≡ get_or a.heads.now a.gate 0 + (rest_at a.lines.now a.n (get_or a.heads.now a.gate 0) + 1) = omega (arith, rest, head.ensures) in
+    ≡ get_or a.heads.now a.gate 0 + (rest_at a.words.now.lines.now a.words.now.count (get_or a.heads.now a.gate 0) + 1) = omega (arith, rest, head.ensures) in
     let table = last.ensures.value
-    ∙ ap₂ (λ (m k : ℕ). cover_table m (cover_of (lines_from a.text.now a.starts.now a.lines.now a.n k))) counted.ensures past in
-    let source = source_of a.inputs a.place.now in
-    let many = get_or a.counts.now a.gate 0 in
-    let ps = map source (entries a.pins.now (most_pins * a.gate) many) in
-    let count = counted.ensures ∙ sym (mapped-length source a.pins.now (most_pins * a.gate) many) in
+    ∙ ap₂ (λ (m k : ℕ). cover_table m (cover_of (lines_from a.words.now.text.now a.words.now.starts.now a.words.now.lines.now a.words.now.count k))) counted.ensures past in
+    let source = source_of a.sources.inputs a.place.now in
+    let many = get_or a.sources.counts.now a.gate 0 in
+    let ps = map source (entries a.sources.pins.now (most_pins * a.gate) many) in
+    let count = counted.ensures ∙ sym (mapped-length source a.sources.pins.now (most_pins * a.gate) many) in
     c.write_record.ensures
     ∙ ap (sets a.image.now a.at)
     (by-pins ps counted.result last.result at_pin.result at-pin2.result at-pin3.result at-pin4.result count

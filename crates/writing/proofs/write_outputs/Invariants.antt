@@ -1,4 +1,4 @@
-use Prim.Native.Nat.{◌-◌, ◌*◌, ◌≤◌}
+use Prim.Native.Nat.{◌*◌}
 use mathlib.Core.Path.{◌≡◌}
 use lib.ListN.{length}
 use lib.Seq.{sets}
@@ -9,8 +9,4 @@ use Rattle.writing.proofs.write_outputs.Given as goal
 
 abbrev pub invariant-loop-k : goal.invariant-loop-k
 invariant-loop-k l =
-    (l.k ≤ l.outputs) × (length l.image ≡ length l.initial.image) × (l.image ≡ sets l.initial.image (record_bytes * l.gates) (joined (output_in l.inputs l.place l.outs) l.k))
-
-abbrev pub decreases-loop-k : goal.decreases-loop-k
-decreases-loop-k l =
-    l.outputs - l.k
+    (length l.image ≡ length l.initial.image) × (l.image ≡ sets l.initial.image (record_bytes * l.gates) (joined (output_in l.inputs l.place l.outs) l.k))

@@ -10,6 +10,7 @@ use Rattle.area.proofs.Words.{pin_at}
 use Rattle.area.specs.Rules.{Workable}
 use Rattle.image.specs.Image.{record_bytes}
 use Rattle.records.specs.Bytes.{record_of, contents_record}
+use Rattle.records.proofs.Pins.{four_fit}
 use Rattle.written.specs.Image.{area_contents}
 use Rattle.written.proofs.Laws.{small-table, small-pin}
 use Rattle.written.proofs.write_gate.Goals as goal
@@ -41,10 +42,11 @@ write_record-requires c =
       count_bound = (
         omega (arith, counted, (work.net.gate j here).few_pins),
         omega (arith, tabled, small-table ws work j here),
-        inside ws work j 0 _ here (omega arith) c.pin-first.ensures,
-        inside ws work j 1 _ here (omega arith) c.pin-second.ensures,
-        inside ws work j 2 _ here (omega arith) c.pin-third.ensures,
-        inside ws work j 3 _ here (omega arith) c.pin-fourth.ensures,
+        four_fit
+            (inside ws work j 0 _ here (omega arith) c.pin.ensures)
+            (inside ws work j 1 _ here (omega arith) c.pin-2.ensures)
+            (inside ws work j 2 _ here (omega arith) c.pin-3.ensures)
+            (inside ws work j 3 _ here (omega arith) c.pin-4.ensures),
       );
     }
 
@@ -58,8 +60,8 @@ returns c =
     c.pin_count-count.ensures
     (c.units_kind.ensures ∙ ap units_kind flipped)
     (c.index-table.ensures ∙ c.table.ensures)
-    c.pin-first.ensures
-    c.pin-second.ensures
-    c.pin-third.ensures
-    c.pin-fourth.ensures
+    c.pin.ensures
+    c.pin-2.ensures
+    c.pin-3.ensures
+    c.pin-4.ensures
     (c.units_field.ensures ∙ ap units_field flipped))

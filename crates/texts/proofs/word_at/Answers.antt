@@ -1,5 +1,0 @@
--- `texts::word_at` meets its contract. Assumes nothing.
-use Rattle.texts.proofs.word_at.Goals as goal
-
-pub returns : goal.returns
-returns c = cc
