@@ -119,8 +119,7 @@ fn first_loop(
     ensures { result ≡ loop_fault (lent_sources sources.entry) sources.entry.inputs gates (λ (j : ℕ). get_or numbers.now (sources.entry.inputs + j) 0) }
 {
     let mut clear = *place;
-    let mut j = 0;
-    while j < gates {
+    for j in 0..gates {
         if on_itself(&clear, sources, gates, j) {
             return Err(Refusal {
                 cause: Cause::TextModel,
@@ -128,7 +127,6 @@ fn first_loop(
             });
         }
         clear[j] = 1;
-        j += 1;
     }
     Ok(())
 }

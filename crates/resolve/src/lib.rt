@@ -30,15 +30,13 @@ pub fn judge_again(names: &Words) -> Result<(), Refusal>
     requires { Lent names.now }
     ensures { result ≡ again_fault (held names.now.text.now names.now.starts.now names.now.lines.now 0 names.now.count) }
 {
-    let mut i = 0;
-    while i < names.count {
+    for i in 0..names.count {
         if names::find(names, names.word(i)) != i {
             return Err(Refusal {
                 cause: Cause::TextModel,
                 place: names.line(i),
             });
         }
-        i += 1;
     }
     Ok(())
 }
@@ -60,8 +58,7 @@ pub fn resolve(
     ensures found { result ≡ Fine → Found words.now.text.now names.now.starts.now names.now.count words.now.starts.now start count table.old
         table.new base }
 {
-    let mut i = 0;
-    while i < count {
+    for i in 0..count {
         let number = find_word(names, words, start + i);
         if number == names.count {
             return Err(Refusal {
@@ -70,7 +67,6 @@ pub fn resolve(
             });
         }
         table[base + i] = number as u16;
-        i += 1;
     }
     Ok(())
 }
@@ -118,10 +114,8 @@ pub fn resolve_gates(
     ensures sources { result ≡ Fine → (ls : List ℕ) → Sources (held words.now.text.now names.now.starts.now ls 0 names.now.count)
         words.now.text.now words.now.starts.now words.now.lines.now words.now.count heads.now pins.new counts.new gates }
 {
-    let mut j = 0;
-    while j < gates {
+    for j in 0..gates {
         resolve_gate(names, words, names::entry(heads, j), j, pins, counts)?;
-        j += 1;
     }
     Ok(())
 }

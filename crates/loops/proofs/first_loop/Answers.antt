@@ -12,7 +12,7 @@ returns-then-on_itself c =
     let l = c.loop-j in
     let inside = c.loop-j-test.true in
     let asked = c.on_itself in
-    search-stops (sources_of c.args.sources.pins.now c.args.sources.counts.now) c.args.sources.inputs c.args.gates c.requires.by_index (λ (i : ℕ). get_or c.args.numbers.now (c.args.sources.inputs + i) 0) l.j c.line.result inside l.invariant.1
+    search-stops (sources_of c.args.sources.pins.now c.args.sources.counts.now) c.args.sources.inputs c.args.gates c.requires.by_index (λ (i : ℕ). get_or c.args.numbers.now (c.args.sources.inputs + i) 0) l.j c.line.result inside l.invariant.0
     (sym (answered (sources_of c.args.sources.pins.now c.args.sources.counts.now) c.args.sources.inputs c.args.gates c.requires.by_index l.j asked.result inside asked.ensures) ∙ c.if-on_itself.true) c.line.ensures
 
 pub loop-j-preserved : goal.loop-j-preserved
@@ -20,14 +20,13 @@ loop-j-preserved c =
     let l = c.loop-j in
     let inside = c.loop-j-test.true in
     let asked = c.on_itself in (
-      omega arith,
-      search-on (sources_of c.args.sources.pins.now c.args.sources.counts.now) c.args.sources.inputs c.args.gates c.requires.by_index (λ (i : ℕ). get_or c.args.numbers.now (c.args.sources.inputs + i) 0) l.j l.invariant.1
+      search-on (sources_of c.args.sources.pins.now c.args.sources.counts.now) c.args.sources.inputs c.args.gates c.requires.by_index (λ (i : ℕ). get_or c.args.numbers.now (c.args.sources.inputs + i) 0) l.j l.invariant.0
           (sym (answered (sources_of c.args.sources.pins.now c.args.sources.counts.now) c.args.sources.inputs c.args.gates c.requires.by_index l.j asked.result inside asked.ensures) ∙ c.if-on_itself.false),
-      rw length-set l.invariant.2,
-      cleared (sources_of c.args.sources.pins.now c.args.sources.counts.now) c.args.sources.inputs c.args.gates c.requires.by_index l.clear l.j asked.result l.invariant.3 asked.ensures c.if-on_itself.false,
+      rw length-set l.invariant.1,
+      cleared (sources_of c.args.sources.pins.now c.args.sources.counts.now) c.args.sources.inputs c.args.gates c.requires.by_index l.clear l.j asked.result l.invariant.2 asked.ensures c.if-on_itself.false,
     )
 
 pub returns : goal.returns
 returns c =
     let l = c.loop-j in
-    search-ends (sources_of c.args.sources.pins.now c.args.sources.counts.now) c.args.sources.inputs c.args.gates c.requires.by_index (λ (i : ℕ). get_or c.args.numbers.now (c.args.sources.inputs + i) 0) l.j (omega (arith, c.loop-j-test.false)) l.invariant.1
+    search-ends (sources_of c.args.sources.pins.now c.args.sources.counts.now) c.args.sources.inputs c.args.gates c.requires.by_index (λ (i : ℕ). get_or c.args.numbers.now (c.args.sources.inputs + i) 0) l.j (omega arith) l.invariant.0

@@ -1,4 +1,4 @@
-use Prim.Native.Nat.{ℕ, ◌+◌, ◌-◌, ◌≤◌}
+use Prim.Native.Nat.{ℕ, ◌+◌}
 use mathlib.Core.Path.{◌≡◌}
 use mathlib.Core.Bool.{not}
 use lib.ListN.{length, get_or}
@@ -11,10 +11,6 @@ use Rattle.refusal.specs.declared.Cause.TheVariants.{TextModel}
 
 abbrev pub invariant-loop-j : goal.invariant-loop-j
 invariant-loop-j l =
-    (l.j ≤ l.gates)
-    × (lowest (λ (i : ℕ). refuse_unless (not (via (sources_of l.sources.pins.now l.sources.counts.now) l.sources.inputs l.gates i i)) TextModel (get_or l.numbers (l.sources.inputs + i) 0)) l.j ≡ Fine)
+    (lowest (λ (i : ℕ). refuse_unless (not (via (sources_of l.sources.pins.now l.sources.counts.now) l.sources.inputs l.gates i i)) TextModel (get_or l.numbers (l.sources.inputs + i) 0)) l.j ≡ Fine)
     × (length l.clear ≡ 1024)
     × Clear (sources_of l.sources.pins.now l.sources.counts.now) l.sources.inputs l.clear
-
-abbrev pub decreases-loop-j : goal.decreases-loop-j
-decreases-loop-j l = l.gates - l.j

@@ -19,21 +19,19 @@ returns-then-find-i c =
     let w = a.names.now in
     let found = c.find.ensures ∙ ap (λ (x : List ℕ). before w.text.now w.starts.now x 0 w.count) c.word.ensures in
     ap (refused TextModel) c.line.ensures
-    ∙ again-stops a.names.now.text.now a.names.now.starts.now a.names.now.lines.now a.names.now.count l.i c.loop-i-test.true l.invariant.1 (λ e. c.if-find-i.true (found ∙ e))
+    ∙ again-stops a.names.now.text.now a.names.now.starts.now a.names.now.lines.now a.names.now.count l.i c.loop-i-test.true l.invariant (λ e. c.if-find-i.true (found ∙ e))
 
 pub loop-i-preserved : goal.loop-i-preserved
 loop-i-preserved c =
     let l = c.loop-i in
     let a = c.args in
     let w = a.names.now in
-    let found = c.find.ensures ∙ ap (λ (x : List ℕ). before w.text.now w.starts.now x 0 w.count) c.word.ensures in (
-      omega arith,
-      lowest-more (again_at (held a.names.now.text.now a.names.now.starts.now a.names.now.lines.now 0 a.names.now.count)) l.i l.invariant.1
-          (again-first a.names.now.text.now a.names.now.starts.now a.names.now.lines.now a.names.now.count l.i c.loop-i-test.true (sym found ∙ c.if-find-i.false)),
-    )
+    let found = c.find.ensures ∙ ap (λ (x : List ℕ). before w.text.now w.starts.now x 0 w.count) c.word.ensures in
+    lowest-more (again_at (held a.names.now.text.now a.names.now.starts.now a.names.now.lines.now 0 a.names.now.count)) l.i l.invariant
+          (again-first a.names.now.text.now a.names.now.starts.now a.names.now.lines.now a.names.now.count l.i c.loop-i-test.true (sym found ∙ c.if-find-i.false))
 
 pub returns : goal.returns
 returns c =
     let l = c.loop-i in
     let a = c.args in
-    again-ends a.names.now.text.now a.names.now.starts.now a.names.now.lines.now a.names.now.count l.i (omega (arith, c.loop-i-test.false)) l.invariant.1
+    again-ends a.names.now.text.now a.names.now.starts.now a.names.now.lines.now a.names.now.count l.i (omega arith) l.invariant

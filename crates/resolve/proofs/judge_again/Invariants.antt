@@ -1,4 +1,3 @@
-use Prim.Native.Nat.{◌-◌, ◌≤◌}
 use mathlib.Core.Path.{◌≡◌}
 use mathlib.Core.Path.{◌≡◌}
 use Rattle.refusal.specs.Judgement.{Fine}
@@ -9,8 +8,4 @@ use Rattle.resolve.proofs.judge_again.Given as goal
 
 abbrev pub invariant-loop-i : goal.invariant-loop-i
 invariant-loop-i l =
-    (l.i ≤ l.names.count) × (lowest (again_at (held l.names.text.now l.names.starts.now l.names.lines.now 0 l.names.count)) l.i ≡ Fine)
-
-abbrev pub decreases-loop-i : goal.decreases-loop-i
-decreases-loop-i l =
-    l.names.count - l.i
+    (lowest (again_at (held l.names.text.now l.names.starts.now l.names.lines.now 0 l.names.count)) l.i ≡ Fine)

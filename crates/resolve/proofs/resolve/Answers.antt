@@ -19,21 +19,19 @@ returns-then-number-names c =
     let l = c.loop-i in
     let a = c.args in record {
       by_index = λ ls. ap (refused TextModel) c.line.ensures ∙ stops a.words.now.text.now a.names.now.starts.now a.names.now.count a.words.now.starts.now a.words.now.lines.now a.start a.count _ a.base l.table l.i
-          l.invariant.1 c.loop-i-test.true c.requires.count_in_bounds at-find-word.result at-find-word.ensures.0 c.if-number-names.true ls;
+          l.invariant c.loop-i-test.true c.requires.count_in_bounds at-find-word.result at-find-word.ensures.0 c.if-number-names.true ls;
       found = refused-not-fine _ _;
     }
 
 pub loop-i-preserved : goal.loop-i-preserved
 loop-i-preserved c =
     let l = c.loop-i in
-    let a = c.args in (
-      omega arith,
-      turn a.words.now.text.now a.names.now.starts.now a.names.now.count a.words.now.starts.now a.words.now.lines.now a.start a.count _ a.base l.table l.i
-          l.invariant.1 c.loop-i-test.true c.requires.count_in_bounds c.find_word-number.result c.find_word-number.ensures.0 (below c.find_word-number.result a.names.now.count c.find_word-number.ensures.1 c.if-number-names.false),
-    )
+    let a = c.args in
+    turn a.words.now.text.now a.names.now.starts.now a.names.now.count a.words.now.starts.now a.words.now.lines.now a.start a.count _ a.base l.table l.i
+          l.invariant c.loop-i-test.true c.requires.count_in_bounds c.find_word-number.result c.find_word-number.ensures.0 (below c.find_word-number.result a.names.now.count c.find_word-number.ensures.1 c.if-number-names.false)
 
 pub returns : goal.returns
 returns c =
     let l = c.loop-i in
     let a = c.args in
-    let f = finish a.words.now.text.now a.names.now.starts.now a.names.now.count a.words.now.starts.now a.words.now.lines.now a.start a.count _ a.base l.table l.i (omega (arith, c.loop-i-test.false)) l.invariant.1 in record { by_index = f.0; found = λ _. f.1 }
+    let f = finish a.words.now.text.now a.names.now.starts.now a.names.now.count a.words.now.starts.now a.words.now.lines.now a.start a.count _ a.base l.table l.i (omega arith) l.invariant in record { by_index = f.0; found = λ _. f.1 }

@@ -1,4 +1,3 @@
-use Prim.Native.Nat.{◌-◌, ◌≤◌}
 use mathlib.Core.Path.{◌≡◌}
 use lib.ListN.{length}
 use Rattle.resolve.proofs.Gates.{Resolving}
@@ -6,8 +5,4 @@ use Rattle.resolve.proofs.resolve_gates.Given as goal
 
 abbrev pub invariant-loop-j : goal.invariant-loop-j
 invariant-loop-j l =
-    (l.j ≤ l.gates) × Resolving l.words.text.now l.names.starts.now l.names.count l.words.starts.now l.words.lines.now l.words.count l.heads l.pins l.counts l.j × (length l.pins ≡ length l.initial.pins) × (length l.counts ≡ length l.initial.counts)
-
-abbrev pub decreases-loop-j : goal.decreases-loop-j
-decreases-loop-j l =
-    l.gates - l.j
+    Resolving l.words.text.now l.names.starts.now l.names.count l.words.starts.now l.words.lines.now l.words.count l.heads l.pins l.counts l.j × (length l.pins ≡ length l.initial.pins) × (length l.counts ≡ length l.initial.counts)
