@@ -110,9 +110,8 @@ fn last_lowest(
     first_values(rows, area, gate, right, shift, pins, number, wrong)
 }
 
-// The last values over the first two, three and four pins. A pin that reads an input drops out. Three functions, since average takes 1.13 to 1.27 times as long
-// with one over the count, up to 1.15 times where it fills a row that is lent and up to 1.14 times by closures; one with the pin as a const parameter would
-// call itself with another, which the check does not cover. What they all take stays apart: as a struct with references it takes up to 1.15 times as long.
+// The last values over the first two, three and four pins. A pin that reads an input drops out.
+// Three functions, no struct: average takes 1.13 to 1.27 times as long by one over the count, up to 1.14 times by closures, 1.15 by a struct with references.
 fn last_two(
     rows: &[u32; rows::ROW_WORDS],
     area: &[u32],

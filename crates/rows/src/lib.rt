@@ -33,14 +33,11 @@ fn first_mean(right: bool, wrong: bool, failure: u32) -> u32
     requires { failure ≤ units_in_one }
     ensures { result ≡ blend units_in_one (value_if right) (value_if wrong) failure }
 {
-    if right {
-        if wrong {
-            rounding::ONE
-        } else {
-            rounding::ONE - failure
-        }
-    } else {
-        if wrong { failure } else { 0 }
+    match (right, wrong) {
+        (true, true) => rounding::ONE,
+        (true, false) => rounding::ONE - failure,
+        (false, true) => failure,
+        (false, false) => 0,
     }
 }
 

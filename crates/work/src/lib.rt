@@ -27,6 +27,7 @@ fn source_word(area: &[u32], source: usize) -> u32
 }
 
 // A gate's pins as the fold takes them. A pin whose source cannot fail only moves the index that the others start from; those have words and bits.
+// Two arrays and no array of structs, since the public contract of figure::pins_word has them apart.
 #[derive(Clone, Copy)]
 struct Pins {
     start: u32,
