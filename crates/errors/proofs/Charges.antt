@@ -1,19 +1,38 @@
--- The sharper error as the code adds it up: what each gate is charged. Assumes nothing.
-use Prim.Native.Nat.{ℕ, ◌+◌, ◌<◌}
-use mathlib.Core.Bool.{cond}
-use mathlib.Core.List.{List, []}
+-- The sharper error as the code adds it up: sources that are gates one by one, and what each gate is charged. Assumes nothing.
+use Prim.Native.Nat.{ℕ, ◌+◌, ◌≤◌, ◌<◌}
+use mathlib.Core.Bool.{Bool, cond}
+use mathlib.Core.List.{List, [], ◌∷◌}
 use mathlib.Core.Path.{◌≡◌, refl, sym, ap, ap₂, ◌∙◌}
 use native.Mathlib.Omega.{arith}
-use lib.Dec.{eqb}
-use lib.ListN.{get_or}
+use lib.Dec.{eqb, leb}
+use lib.ListN.{length, get_or, take, drop, length-drop}
+use lib.Seq.{length-take-le}
 use Rattle.lists.specs.Lists.{sum_below}
-use Rattle.lists.proofs.Sums.{sum_more, sum_same}
+use Rattle.lists.proofs.Parts.{part_at}
+use Rattle.lists.proofs.Sums.{sum_first, sum_more, sum_same}
+use Rattle.figure.specs.Figure.{bit_of}
 use Rattle.netlist.specs.Netlist.{gate_at}
 use Rattle.netlist.specs.Live.{if_live, readers}
-use Rattle.bound.specs.Sharp.{further_gates, gate_halves, error_halves}
+use Rattle.bound.specs.Sharp.{how_many, further_gates, gate_halves, error_halves}
 use Rattle.area.specs.Layout.{inputs, gates, used_pins, output_words}
 use Rattle.area.specs.Net.{net_of}
 use Rattle.area.proofs.Net.{gate-at, gate_count, same-readers}
+
+-- one source after another
+sum_of : (test : ℕ → Bool) (xs : List ℕ) → how_many test xs ≡ sum_below (length xs) (λ i. bit_of (test (get_or xs i 0)))
+sum_of test [] = refl
+sum_of test (x ∷ xs) = ap (λ (k : ℕ). bit_of (test x) + k) (sum_of test xs) ∙ sym (sum_first (λ i. bit_of (test (get_or (x ∷ xs) i 0))) (length xs))
+
+-- the `many` sources from `start` on
+pub gates-among : (n : ℕ) (ws : List ℕ) (start many : ℕ) → start + many ≤ length ws
+    → how_many (leb n) (take many (drop start ws)) ≡ sum_below many (λ i. bit_of (leb n (get_or ws (start + i) 0)))
+gates-among n ws start many room =
+    let part = take many (drop start ws) in
+    let long : length part ≡ many = length-take-le many (drop start ws) (omega (arith, length-drop start ws)) in
+    sum_of (leb n) part
+    ∙ ap (λ (k : ℕ). sum_below k (λ i. bit_of (leb n (get_or part i 0)))) long
+    ∙ sum_same (λ i. bit_of (leb n (get_or part i 0))) (λ i. bit_of (leb n (get_or ws (start + i) 0))) many
+    (λ i less. ap (λ (x : ℕ). bit_of (leb n x)) (part_at ws start many i less))
 
 -- what gate j of the words is charged; the chances have no part in it
 abbrev pub charge : List ℕ → List ℕ → List ℕ → ℕ → ℕ

@@ -18,11 +18,14 @@ fn further_gates(area: &[u32], start: usize, many: usize, inputs: usize) -> u32
     requires { (start + many ≤ length area.now) × (many ≤ layout.most_outputs) }
     ensures { (result ≡ further_gates inputs (take many (drop start area.now))) × (result ≤ many) }
 {
-    let gates = area[start..start + many]
-        .iter()
-        .filter(|source| inputs <= area::index(**source))
-        .count();
-    gates.saturating_sub(1) as u32
+    // Tried as a filter of the part that counts: `bench_error_of_image` took 1.2 times as long, since most parts are two words long.
+    let mut gates: u32 = 0;
+    for i in 0..many {
+        if inputs <= area::index(area[start + i]) {
+            gates += 1;
+        }
+    }
+    gates.saturating_sub(1)
 }
 
 // What a live gate may cost: its chance is rounded, and so is its step, unless it never flips; then its fold.

@@ -5,6 +5,6 @@ use Rattle.lists.specs.Lists.{count}
 use Rattle.area.specs.Layout.{most_sources}
 use Rattle.live.proofs.add_reads.Given as goal
 
-abbrev pub invariant-loop-word : goal.invariant-loop-word
-invariant-loop-word l =
-    (length l.readers ≡ most_sources) × ((s : ℕ) → get_or l.readers s 0 ≡ get_or l.initial.readers s 0 + count s (take l.word-index (drop l.fn.start l.fn.area)))
+abbrev pub invariant-loop-i : goal.invariant-loop-i
+invariant-loop-i l =
+    (length l.readers ≡ most_sources) × ((s : ℕ) → get_or l.readers s 0 ≡ get_or l.initial.readers s 0 + count s (take l.i (drop l.start l.area)))
