@@ -52,14 +52,11 @@ fn cover_rows(words: &Words, from: usize, width: usize) -> usize
     ensures { result ≡ table_of width (some_meets (cover_of (lines_in words.now from))) }
 {
     let mut rows = 0;
-    // The step is the length of a line, so no range goes through it.
-    let mut k = from;
-    while k < words.count {
-        if model::key_at(words, k) != Keyword::Other {
+    for line in statements::lines_from(words, from) {
+        if model::key_at(words, line.first) != Keyword::Other {
             return rows;
         }
-        rows |= line_rows(words.word(k), width);
-        k += statements::line_rest(words, k) + 1;
+        rows |= line_rows(words.word(line.first), width);
     }
     rows
 }

@@ -113,20 +113,16 @@ pub fn collect(
         (listed wanted (lines_in words.now 0)) names.new numbers.new result }
 {
     let mut count = from;
-    // The step is the length of a line, so no range goes through it.
-    let mut k = 0;
-    while k < words.count {
-        let rest = statements::line_rest(words, k);
-        let many = run_many(key_at(words, k), wanted, rest);
+    for line in statements::lines_from(words, 0) {
+        let many = run_many(key_at(words, line.first), wanted, line.rest);
         count = enter(
             words,
-            run_start(wanted, k, rest),
+            run_start(wanted, line.first, line.rest),
             many,
             names,
             numbers,
             count,
         );
-        k += rest + 1;
     }
     count
 }
@@ -154,12 +150,8 @@ pub fn heads(words: &Words, heads: &mut [u16]) -> usize
     ensures heads_len_unchanged { length heads.new ≡ length heads.old }
 {
     let mut count = 0;
-    // As in `collect`, the step is the length of a line.
-    let mut k = 0;
-    while k < words.count {
-        let rest = statements::line_rest(words, k);
-        count = enter_head(heads, count, key_at(words, k), k);
-        k += rest + 1;
+    for line in statements::lines_from(words, 0) {
+        count = enter_head(heads, count, key_at(words, line.first), line.first);
     }
     count
 }

@@ -1,3 +1,4 @@
 pub mod Lines
 pub mod Fit
 pub mod Statements
+pub mod Walk

@@ -2,6 +2,8 @@
 #![tactic(auto)]
 
 ghost use Rattle.std.specs.Prelude.{◌≡◌, ◌+◌, ◌-◌, ◌<◌, ◌≤◌, length, get_or};
+ghost use Rattle.std.specs.Iterator.{at_most};
+ghost use Rattle.statements.specs.Walk.{CanWalk, NextLine};
 ghost use Rattle.statements.specs.Lines.{PlacesTo, Lent, bytes_of, alike, lines_of};
 ghost use Rattle.statements.specs.Fit.{keyword_of, all_names, value_of, row_byte, is_row, after_model, after_list, after_gate, after_end};
 ghost use Rattle.statements.specs.Fit.{after_value, after_line, after_first, after_heading, after_cover, fit, fault};
@@ -72,17 +74,70 @@ fn all_names(words: &Words, from: usize, many: usize) -> bool
     true
 }
 
-// How many words after word k stand in its line.
+// How many words after word k of `count` stand in its line.
+fn rest_of(numbers: &[u16], k: usize, count: usize) -> usize
+    requires { (k < count) × (count ≤ length numbers.now) }
+    ensures value { result ≡ alike numbers.now (get_or numbers.now k 0) (k + 1) (count - (k + 1)) }
+    ensures within { k + result < count }
+{
+    for i in k + 1..count {
+        if numbers[i] != numbers[k] {
+            return i - (k + 1);
+        }
+    }
+    count - (k + 1)
+}
+
 pub fn line_rest(words: &Words, k: usize) -> usize
     requires { (k < words.now.count) × (words.now.count ≤ length words.now.lines.now) }
     ensures { result ≡ alike words.now.lines.now (get_or words.now.lines.now k 0) (k + 1) (words.now.count - (k + 1)) }
 {
-    for i in k + 1..words.count {
-        if words.lines[i] != words.lines[k] {
-            return i - (k + 1);
+    rest_of(words.lines, k, words.count)
+}
+
+// A line by its first word, and how many words follow that one in it.
+#[derive(Clone, Copy, Drop)]
+pub struct Line {
+    pub first: usize,
+    pub rest: usize,
+}
+
+// The lines of the words from word `at` on.
+#[derive(Drop)]
+pub struct LineWalk<'a> {
+    pub numbers: &'a [u16],
+    pub count: usize,
+    pub at: usize,
+}
+
+impl<'a> Iterator for LineWalk<'a> {
+    type Item = Line;
+
+    ghost can_next = { CanWalk };
+
+    ghost next_gives = { NextLine };
+
+    ghost remaining = { λ s. at_most (s.count - s.at) };
+
+    fn next(&mut self) -> Option<Line> {
+        if self.at >= self.count {
+            return None;
         }
+        let first = self.at;
+        let rest = rest_of(self.numbers, first, self.count);
+        self.at = first + rest + 1;
+        Some(Line { first, rest })
     }
-    words.count - (k + 1)
+}
+
+pub fn lines_from<'a>(words: &Words<'a>, at: usize) -> LineWalk<'a>
+    ensures { (result.numbers ≡ words.now.lines) × (result.count ≡ words.now.count) × (result.at ≡ at) }
+{
+    LineWalk {
+        numbers: words.lines,
+        count: words.count,
+        at,
+    }
 }
 
 // What a cover line ends in: 0 or 1, or neither.

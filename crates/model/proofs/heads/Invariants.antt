@@ -1,13 +1,13 @@
-use Prim.Native.Nat.{◌-◌, ◌≤◌}
 use mathlib.Core.Path.{◌≡◌}
 use lib.ListN.{length}
+use Rattle.statements.specs.Walk.{Walks}
 use Rattle.model.proofs.Heading.{Heading}
 use Rattle.model.proofs.heads.Given as goal
 
-abbrev pub invariant-loop-k : goal.invariant-loop-k
-invariant-loop-k l =
-    (l.k ≤ l.words.count) × (length l.heads ≡ length l.initial.heads) × Heading l.words.text.now l.words.starts.now l.words.lines.now l.words.count l.heads l.count l.k
-
-abbrev pub decreases-loop-k : goal.decreases-loop-k
-decreases-loop-k l =
-    l.words.count - l.k
+abbrev pub invariant-loop-line : goal.invariant-loop-line
+invariant-loop-line l =
+    (goal.iterator-loop-line).can_next l.line-iterator
+    × (goal.iterator-loop-line).is_finite l.line-iterator
+    × Walks l.words l.line-iterator
+    × (length l.heads ≡ length l.initial.heads)
+    × Heading l.words.text.now l.words.starts.now l.words.lines.now l.words.count l.heads l.count l.line-iterator.at
