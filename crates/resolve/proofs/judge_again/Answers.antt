@@ -28,7 +28,7 @@ loop-i-preserved c =
     let w = a.names.now in
     let found = c.find.ensures ∙ ap (λ (x : List ℕ). before w.text.now w.starts.now x 0 w.count) c.word.ensures in
     lowest-more (again_at (held a.names.now.text.now a.names.now.starts.now a.names.now.lines.now 0 a.names.now.count)) l.i l.invariant
-          (again-first a.names.now.text.now a.names.now.starts.now a.names.now.lines.now a.names.now.count l.i c.loop-i-test.true (sym found ∙ c.if-find-i.false))
+    (again-first a.names.now.text.now a.names.now.starts.now a.names.now.lines.now a.names.now.count l.i c.loop-i-test.true (sym found ∙ c.if-find-i.false))
 
 pub returns : goal.returns
 returns c =

@@ -28,7 +28,7 @@ loop-i-preserved c =
     let l = c.loop-i in
     let a = c.args in
     turn a.words.now.text.now a.names.now.starts.now a.names.now.count a.words.now.starts.now a.words.now.lines.now a.start a.count _ a.base l.table l.i
-          l.invariant c.loop-i-test.true c.requires.count_in_bounds c.find_word-number.result c.find_word-number.ensures.0 (below c.find_word-number.result a.names.now.count c.find_word-number.ensures.1 c.if-number-names.false)
+    l.invariant c.loop-i-test.true c.requires.count_in_bounds c.find_word-number.result c.find_word-number.ensures.0 (below c.find_word-number.result a.names.now.count c.find_word-number.ensures.1 c.if-number-names.false)
 
 pub returns : goal.returns
 returns c =
