@@ -4,6 +4,7 @@
     tools/places.py [COMMIT]      counts, of a commit or of what stands in the tree
     tools/places.py -v [COMMIT]   and the places themselves
 """
+import itertools
 import re
 import subprocess
 import sys
@@ -81,6 +82,31 @@ def clauses(made):
     return [f"{c}: {f} -- {', '.join(n)}" for (c, f), n in groups.items() if len(n) > 2]
 
 
+def together(made):
+    """Functions of a crate that share three parameters, by name and type, with two others."""
+    groups = {}
+    for place, name, params, _, _ in made:
+        for three in itertools.combinations(sorted(p for p in params if ":" in p), 3):
+            groups.setdefault((place.split("/")[1], three), set()).add(f"{place}: {name}")
+    return sorted({f for g in groups.values() if len(g) > 2 for f in g})
+
+
+ARRAYS = [("starts", "lines"), ("names", "numbers"), ("first", "end"), ("words", "bits"), ("pins", "counts"), ("next", "unseen"), ("place", "order")]
+LENGTHS = [("starts", "n"), ("names", "many"), ("heads", "gates"), ("outs", "outputs"), ("lines", "n")]
+
+
+def pairs(made, named, length):
+    """Functions that are lent two arrays that are read alike, or an array with its length beside it."""
+    found = []
+    for place, name, params, _, _ in made:
+        types = dict(p.split(": ", 1) for p in params if ": " in p)
+        for a, b in named:
+            if "[" in types.get(a, "") and ("[" in types.get(b, "") or length and b in types):
+                found.append(f"{place}: {name} {a} {b}")
+                break
+    return found
+
+
 def main():
     args = [a for a in sys.argv[1:] if a != "-v"]
     texts = sources(args[0] if args else None)
@@ -88,17 +114,18 @@ def main():
     of_programs = {n: t for n, t in texts.items() if n.endswith("main.rt")}
     by_hand = r"^ *(pub )?fn (smaller|larger|same|wide|byte|low|high|apart|copy|earlier|field_bytes|two_bytes|four_bytes|print_word|end_line|print_text)\("
     points = [
-        ("1 enums of the shape of Option or Result", lines(texts, r"^\s+(Refused|Fine|Accepted|Unlike|Missing|Differs|Misfit|AboveHalf)\b.*,$")),
+        ("1 enums of the shape of Option or Result", lines(texts, r"^\s+(Refused|Fine|Accepted|Unlike|Missing|Differs|Misfit)\b.*,$")),
         ("1 refusals handed on by hand", lines(texts, r"Refused\((number|a|b), \w+\) =>|return Judgement::Refused\(number")),
-        ("1 numbers for refusals and kinds", lines(texts, r"^pub const \w+: u8 = \d+;|^pub const (INPUTS|OUTPUTS|GATES|COVER): usize = \d;|^\s+(return )?2;?$")),
+        ("1 numbers for refusals and kinds", lines(texts, r"^pub const \w+: u8 = \d+;|^pub const (OUTPUTS|COVER): usize = \d;|^\s+(return )?2;?$|ending: 2")),
         ("2 bodies that differ in names and numbers", twins(made)),
         ("2 functions by the number in their names", numbered(made)),
         ("3 loops that count an index", lines(texts, r"^\s*while ")),
         ("4 equality, order, copying, conversion by hand", lines(texts, by_hand)),
         ("4 printing by hand", lines(of_programs, r"print_word\(|print_text\(")),
-        ("5 functions of six parameters and more", [f"{p}: {n} {len(ps)}" for p, n, ps, _, _ in made if len(ps) > 5]),
+        ("5 functions that share three parameters with two others", together(made)),
         ("5 facts in three contracts", clauses(made)),
-        ("6 parallel arrays lent together", [f"{p}: {n}" for p, n, ps, _, _ in made if len([x for x in ps if re.search(r"\[u(16|32|64|size)(; |\])|usize; ", x)]) > 1]),
+        ("6 parallel arrays lent together", pairs(made, ARRAYS, False)),
+        ("6 buffers with a length beside them", pairs(made, LENGTHS, True)),
         ("7 a switch on which step to run", lines(texts, r"match (method|end|count|kind) \{")),
     ]
     for title, places in points:
