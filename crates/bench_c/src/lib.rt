@@ -2,8 +2,8 @@
 // of two images, the one that is refused stands above the number, from bit 40 on.
 #![tactic(auto)]
 
-ghost use Rattle.std.specs.Prelude.{◌≡◌, length, ◌/◌, ◌%◌};
-ghost use Rattle.refusal.specs.Judgement.{number_of, unless_refused};
+ghost use Rattle.std.specs.Prelude.{◌≡◌, ℕ, length, ◌/◌, ◌%◌};
+ghost use Rattle.refusal.specs.Judgement.{Judgement, number_of, answer, unless_refused};
 ghost use Rattle.flips.specs.Written.{field_bytes};
 ghost use Rattle.area.specs.Layout.{pattern as pattern_word, reliability_word, figure};
 ghost use Rattle.calls.specs.Judgements.{open_image, toggle_input, set_flip, read_netlist, read_gate, take_average, count_seen, write_image, judgement};
@@ -41,6 +41,20 @@ fn code_of(judged: Result<(), Refusal>) -> u64
     }
 }
 
+// The number of a call that answers one value, which goes to `out`.
+fn tell(told: Result<u32, Refusal>, out: &mut u32) -> u64
+    ensures value { (judged : Judgement) (value : ℕ) → told ≡ answer judged value → result ≡ code judged }
+    ensures out_after { (judged : Judgement) (value : ℕ) → told ≡ answer judged value → out.new ≡ unless_refused judged value out.old }
+{
+    match told {
+        Ok(value) => {
+            *out = value;
+            0
+        }
+        Err(refusal) => refused(refusal),
+    }
+}
+
 // Opens an image; the number of live gates goes to `live`.
 #[unsafe(no_mangle)]
 pub extern "C" fn bench_open(area: &mut [u32], image: &[u8], live: &mut u32) -> u64
@@ -49,13 +63,7 @@ pub extern "C" fn bench_open(area: &mut [u32], image: &[u8], live: &mut u32) -> 
         (open_live image.now) live.old }
     ensures area_after { area.new ≡ left area.old (open_image image.now) }
 {
-    match bench::open(area, image) {
-        Ok(gates) => {
-            *live = gates;
-            0
-        }
-        Err(refusal) => refused(refusal),
-    }
+    tell(bench::open(area, image), live)
 }
 
 // Toggles one input.
@@ -135,13 +143,7 @@ pub extern "C" fn bench_average(area: &mut [u32], weights: &[u32], units: &mut u
         (average_of area.old weights.now) units.old }
     ensures area_after { area.new ≡ left area.old (take_average weights.now) }
 {
-    match bench::average(area, weights) {
-        Ok(average) => {
-            *units = average;
-            0
-        }
-        Err(refusal) => refused(refusal),
-    }
+    tell(bench::average(area, weights), units)
 }
 
 // Counts, gate by gate, the listed patterns in which its flip alone is seen at an output, by flipping it: one count a gate goes to `counts`.
@@ -170,13 +172,7 @@ pub extern "C" fn bench_write_image(area: &[u32], image: &mut [u8], bytes: &mut 
         (area_image_length area.now) bytes.old }
     ensures image_after { image.new ≡ image_left area.now image.old }
 {
-    match bench::write_image(area, image) {
-        Ok(written) => {
-            *bytes = written;
-            0
-        }
-        Err(refusal) => refused(refusal),
-    }
+    tell(bench::write_image(area, image), bytes)
 }
 
 // Reads a BLIF text and writes its image; the image's length goes to `bytes`.
@@ -187,13 +183,7 @@ pub extern "C" fn bench_read_blif(text: &[u8], image: &mut [u8], bytes: &mut u32
         (model_length (text_lines text.now)) bytes.old }
     ensures image_after { image.new ≡ blif_left text.now image.old }
 {
-    match blif::read_blif(text, image) {
-        Ok(written) => {
-            *bytes = written;
-            0
-        }
-        Err(refusal) => refused(refusal),
-    }
+    tell(blif::read_blif(text, image), bytes)
 }
 
 // The error of an image's figures in half units goes to `halves`, the number of live gates to `live`.
@@ -221,13 +211,7 @@ pub extern "C" fn bench_shared_reliability(image: &[u8], pattern: u32, units: &m
     ensures units_after { units.new ≡ unless_refused (shared_image_judgement image.now) (image_shared image.now pattern)
         units.old }
 {
-    match shared::shared_reliability(image, pattern) {
-        Ok(reliability) => {
-            *units = reliability;
-            0
-        }
-        Err(refusal) => refused(refusal),
-    }
+    tell(shared::shared_reliability(image, pattern), units)
 }
 
 fn verdict_number(verdict: Verdict) -> u32
