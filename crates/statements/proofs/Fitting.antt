@@ -3,7 +3,8 @@ use Prim.Native.Nat.{ℕ}
 use mathlib.Core.Path.{◌≡◌, refl}
 use Rattle.std.specs.List.{list_all}
 use Rattle.names.proofs.Names.{and-is}
-use mathlib.Core.Bool.{true, false}
+use mathlib.Core.Bool.{Bool, true, false, cond}
+use lib.Dec.{eqb}
 use mathlib.Core.List.{List, [], ◌∷◌}
 use lib.ListN.{length, get_or}
 use borrow.Author.Tests.{eq-eqb, ne_eqb}
@@ -79,3 +80,11 @@ module _ (width ending : ℕ) (ws : List (List ℕ)) where
   pub row-wrong : (width ≡ 0 → ⊥) → length ws ≡ 2 → is_row width (get_or ws 0 []) ≡ false → Misfit ≡ after_line width ending ws
   unfolding after_line
   row-wrong e n r = simp (ne_eqb _ _ e, eq-eqb _ _ n, r)
+
+  pub neither : (length ws ≡ 1 → ⊥) → (length ws ≡ 2 → ⊥) → Misfit ≡ after_line width ending ws
+  unfolding after_line
+  neither n m = simp (ne_eqb _ _ n, ne_eqb _ _ m) (alike (eqb width 0))
+    where
+      alike : (q : Bool) → Misfit ≡ cond q Misfit Misfit
+      alike true = refl
+      alike false = refl
