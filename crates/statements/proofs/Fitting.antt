@@ -3,12 +3,14 @@ use Prim.Native.Nat.{ℕ}
 use mathlib.Core.Path.{◌≡◌, refl}
 use Rattle.std.specs.List.{list_all}
 use Rattle.names.proofs.Names.{and-is}
-use mathlib.Core.Bool.{Bool, true, false}
+use mathlib.Core.Bool.{Bool, true, false, cond}
+use lib.Dec.{eqb}
 use mathlib.Core.List.{List, [], ◌∷◌}
 use lib.ListN.{length, get_or}
 use borrow.Author.Tests.{eq-eqb, ne_eqb}
 use Rattle.std.specs.Prelude.{Option, Some, None}
 use Rattle.names.specs.Names.{same}
+use Rattle.statements.specs.declared.Phase.{Phase}
 use Rattle.statements.specs.declared.Keyword.TheVariants.{Model, Inputs, Outputs, Names, End, Other}
 use Rattle.statements.specs.Fit.{key_model, key_inputs, key_outputs, key_names, key_end, keyword_of, value_of, row_byte, row_bytes, is_row, after_value, after_line}
 
@@ -79,3 +81,11 @@ module _ (width : ℕ) (ending : Option Bool) (ws : List (List ℕ)) where
   pub row-wrong : (width ≡ 0 → ⊥) → length ws ≡ 2 → is_row width (get_or ws 0 []) ≡ false → None ≡ after_line width ending ws
   unfolding after_line
   row-wrong e n r = simp (ne_eqb _ _ e, eq-eqb _ _ n, r)
+
+  pub neither : (length ws ≡ 1 → ⊥) → (length ws ≡ 2 → ⊥) → None ≡ after_line width ending ws
+  unfolding after_line
+  neither n m = simp (ne_eqb _ _ n, ne_eqb _ _ m) (alike (eqb width 0))
+    where
+      alike : (q : Bool) → ◌≡◌ {A = Option Phase} None (cond q None None)
+      alike true = refl
+      alike false = refl

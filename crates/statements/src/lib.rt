@@ -255,19 +255,15 @@ fn after_line(
     requires { PlacesTo words.now (k + (rest + 1)) }
     ensures { result ≡ after_line width ending (bytes_of words.now k (rest + 1)) }
 {
-    if width == 0 {
-        if rest != 0 {
-            return None;
-        }
-        return after_value(width, ending, value_at(words, k));
+    match rest {
+        0 if width == 0 => after_value(width, ending, value_at(words, k)),
+        1 if width != 0 && row_at(words, k, width) => after_value(
+            width,
+            ending,
+            value_at(words, k + 1),
+        ),
+        _ => None,
     }
-    if rest != 1 {
-        return None;
-    }
-    if row_at(words, k, width) {
-        return after_value(width, ending, value_at(words, k + 1));
-    }
-    None
 }
 
 fn after_first(words: &Words, key: Keyword, from: usize, many: usize) -> Option<Phase>

@@ -1,52 +1,62 @@
 -- `statements::after_line` meets its contract. Assumes nothing.
-use Prim.Native.Nat.{◌+◌}
+use Prim.Native.Nat.{ℕ, ◌+◌}
 use mathlib.Core.Path.{◌≡◌, ap, sym, ◌∙◌}
 use mathlib.Core.List.{[]}
 use native.Mathlib.Omega.{arith}
-use lib.ListN.{length, get_or, drop}
 use native.Mathlib.Nat.{add-zero}
-use Rattle.texts.specs.Words.{word_of}
-use Rattle.statements.specs.Lines.{bytes_from}
+use lib.ListN.{length, get_or}
+use Rattle.names.specs.declared.Words.{Words}
+use Rattle.names.specs.Names.{name_of}
+use Rattle.statements.specs.Lines.{bytes_of}
 use Rattle.statements.specs.Fit.{after_value, value_of, is_row}
-use Rattle.statements.proofs.Fitting.{bare, bare-many, row-many, row-right, row-wrong}
+use Rattle.statements.proofs.Fitting.{bare, bare-many, row-many, row-right, row-wrong, neither}
 use Rattle.statements.proofs.Lines.{length-bytes, bytes-at}
 use Rattle.statements.proofs.after_line.Goals as goal
 
-pub returns-then-rest-ne0 : goal.returns-then-rest-ne0
-returns-then-rest-ne0 c =
-    let a = c.args in
-    let ws = bytes_from a.words.now.text.now a.words.now.starts.now a.k (a.rest + 1) in
-    let long : length ws ≡ a.rest + 1 = length-bytes a.words.now.text.now a.words.now.starts.now a.k (a.rest + 1) in
-    bare-many a.width a.ending ws c.if-width-eq0.true (λ e. c.if-rest-ne0.true (omega arith))
+-- the words of the line: how many they are, and the first
+module _ (w : Words) (k rest : ℕ) where
+  long : length (bytes_of w k (rest + 1)) ≡ rest + 1
+  long = length-bytes w.text.now w.starts.now k (rest + 1)
 
-pub returns-then-width-eq0 : goal.returns-then-width-eq0
-returns-then-width-eq0 c =
-    let a = c.args in
-    let ws = bytes_from a.words.now.text.now a.words.now.starts.now a.k (a.rest + 1) in
-    let long : length ws ≡ a.rest + 1 = length-bytes a.words.now.text.now a.words.now.starts.now a.k (a.rest + 1) in
-    let first : get_or ws 0 [] ≡ word_of (drop (get_or a.words.now.starts.now a.k 0) a.words.now.text.now) = bytes-at a.words.now.text.now a.words.now.starts.now a.k (a.rest + 1) 0 (omega arith) ∙ rw add-zero in
-    c.after_value.ensures ∙ ap (after_value a.width a.ending) (c.value_at.ensures ∙ ap value_of (sym first)) ∙ bare a.width a.ending ws c.if-width-eq0.true (omega arith)
+  first : get_or (bytes_of w k (rest + 1)) 0 [] ≡ name_of w k
+  first = bytes-at w.text.now w.starts.now k (rest + 1) 0 (omega arith) ∙ rw add-zero
 
-pub returns-then-rest-ne1 : goal.returns-then-rest-ne1
-returns-then-rest-ne1 c =
+pub returns-in-0 : goal.returns-in-0
+returns-in-0 c =
     let a = c.args in
-    let ws = bytes_from a.words.now.text.now a.words.now.starts.now a.k (a.rest + 1) in
-    let long : length ws ≡ a.rest + 1 = length-bytes a.words.now.text.now a.words.now.starts.now a.k (a.rest + 1) in
-    row-many a.width a.ending ws c.if-width-eq0.false (λ e. c.if-rest-ne1.true (omega arith))
+    let w = a.words.now in
+    c.after_value.ensures
+    ∙ ap (after_value a.width a.ending) (c.value_at.ensures ∙ ap value_of (sym (first w a.k a.rest)))
+    ∙ bare a.width a.ending (bytes_of w a.k (a.rest + 1)) c.if-width-eq0.true (omega (arith, long w a.k a.rest, c.in-0.is))
 
-pub returns-then-row_at : goal.returns-then-row_at
-returns-then-row_at c =
+pub returns-in-1 : goal.returns-in-1
+returns-in-1 c =
     let a = c.args in
-    let ws = bytes_from a.words.now.text.now a.words.now.starts.now a.k (a.rest + 1) in
-    let long : length ws ≡ a.rest + 1 = length-bytes a.words.now.text.now a.words.now.starts.now a.k (a.rest + 1) in
-    let first : get_or ws 0 [] ≡ word_of (drop (get_or a.words.now.starts.now a.k 0) a.words.now.text.now) = bytes-at a.words.now.text.now a.words.now.starts.now a.k (a.rest + 1) 0 (omega arith) ∙ rw add-zero in
-    c.after_value-then-row_at.ensures ∙ ap (after_value a.width a.ending) (c.value_at-then-row_at.ensures ∙ ap value_of (sym (bytes-at a.words.now.text.now a.words.now.starts.now a.k (a.rest + 1) 1 (omega arith))))
-    ∙ row-right a.width a.ending ws c.if-width-eq0.false (omega arith) (ap (is_row a.width) first ∙ sym c.row_at.ensures ∙ c.if-row_at.true)
+    let w = a.words.now in
+    c.after_value-in-1.ensures
+    ∙ ap (after_value a.width a.ending)
+    (c.value_at-in-1.ensures ∙ ap value_of (sym (bytes-at w.text.now w.starts.now a.k (a.rest + 1) 1 (omega (arith, c.in-1.is)))))
+    ∙ row-right a.width a.ending (bytes_of w a.k (a.rest + 1)) c.if-width-ne0.true (omega (arith, long w a.k a.rest, c.in-1.is))
+    (ap (is_row a.width) (first w a.k a.rest) ∙ sym c.row_at.ensures ∙ c.if-row_at.true)
 
-pub returns : goal.returns
-returns c =
+pub returns-in_default : goal.returns-in_default
+returns-in_default c =
     let a = c.args in
-    let ws = bytes_from a.words.now.text.now a.words.now.starts.now a.k (a.rest + 1) in
-    let long : length ws ≡ a.rest + 1 = length-bytes a.words.now.text.now a.words.now.starts.now a.k (a.rest + 1) in
-    let first : get_or ws 0 [] ≡ word_of (drop (get_or a.words.now.starts.now a.k 0) a.words.now.text.now) = bytes-at a.words.now.text.now a.words.now.starts.now a.k (a.rest + 1) 0 (omega arith) ∙ rw add-zero in
-    row-wrong a.width a.ending ws c.if-width-eq0.false (omega arith) (ap (is_row a.width) first ∙ sym c.row_at.ensures ∙ c.if-row_at.false)
+    row-many a.width a.ending _ c.if-width-eq0.false (λ e. omega (arith, long a.words.now a.k a.rest, c.in-0.is))
+
+pub returns-in_default-2 : goal.returns-in_default-2
+returns-in_default-2 c =
+    let a = c.args in
+    let w = a.words.now in
+    row-wrong a.width a.ending (bytes_of w a.k (a.rest + 1)) c.if-width-ne0.true (omega (arith, long w a.k a.rest, c.in-1.is))
+    (ap (is_row a.width) (first w a.k a.rest) ∙ sym c.row_at.ensures ∙ c.if-row_at.false)
+
+pub returns-in_default-3 : goal.returns-in_default-3
+returns-in_default-3 c =
+    let a = c.args in
+    bare-many a.width a.ending _ c.if-width-ne0.false (λ e. omega (arith, long a.words.now a.k a.rest, c.in-1.is))
+
+pub returns-in_default-4 : goal.returns-in_default-4
+returns-in_default-4 c =
+    let a = c.args in
+    neither a.width a.ending _ (λ e. omega (arith, long a.words.now a.k a.rest)) (λ e. omega (arith, long a.words.now a.k a.rest))
