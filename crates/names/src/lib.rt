@@ -5,7 +5,8 @@ ghost use Rattle.std.specs.Prelude.{◌≡◌, false, ℕ, ◌<◌, ◌≤◌, l
 ghost use Rattle.texts.specs.Words.{word_of};
 ghost use Rattle.names.specs.Names.{same, name_byte, is_name, before, HasWord, name_of};
 
-// Words of a text: where each starts, the number of its line, and how many of them there are. Two tables and not one of pairs: texts/specs/Words.antt `Tables`, `held`.
+// Words of a text: where each starts, the number of its line, and how many of them there are.
+// Two tables and not one of pairs: texts/specs/Words.antt `Tables` and `held` speak of both.
 #[derive(Clone, Copy)]
 pub struct Words<'a> {
     pub text: &'a [u8],
@@ -102,7 +103,8 @@ fn is_at(names: &Words, k: usize, w: &[u8]) -> bool
     may_be(names.text, entry(names.starts, k), w) && same(names.word(k), w)
 }
 
-// How many of the names stand before the first that equals w; all of them if none does, and no Option: specs/Names.antt `before` and all numbers of names say it so.
+// How many of the names stand before the first that equals w; all of them if none does,
+// and no Option: specs/Names.antt `before` and all numbers of names say it so.
 pub fn find(names: &Words, w: &[u8]) -> usize
     requires { (names.now.count ≤ length names.now.starts.now) × ((k : ℕ) → k < names.now.count → get_or names.now.starts.now k 0 < length names.now.text.now) }
     ensures { result ≡ before names.now.text.now names.now.starts.now w.now 0 names.now.count }

@@ -36,7 +36,8 @@ fn pin(
     p: usize,
 ) -> usize
     requires { LentPins sources place.now × (gate < most_gates) × (count ≤ most_pins) }
-    ensures { (result ≡ get_or (map (source_of sources.entry.inputs place.now) (entries sources.entry.pins.now (most_pins * gate) count)) p 0) × (result < 65_536) }
+    ensures { (result ≡ get_or (map (source_of sources.entry.inputs place.now) (entries sources.entry.pins.now (most_pins * gate) count)) p 0)
+        × (result < 65_536) }
 {
     if p < count {
         source_of(
@@ -119,7 +120,8 @@ fn write_outputs(
     image: &mut [u8],
 )
     requires sourced { Sourced inputs place.now }
-    requires outputs_in_bounds { (outputs ≤ length outs.now) × ((i : ℕ) → get_or outs.now i 0 < inputs + most_gates) × (gates ≤ most_gates) × (outputs ≤ most_outputs) }
+    requires outputs_in_bounds { (outputs ≤ length outs.now) × ((i : ℕ) → get_or outs.now i 0 < inputs + most_gates)
+        × (gates ≤ most_gates) × (outputs ≤ most_outputs) }
     requires outputs_in_bounds_2 { middle_bytes gates outputs ≤ length image.old }
     ensures { image.new ≡ sets image.old (record_bytes * gates)
         (joined (output_in inputs place.now outs.now) outputs) }
