@@ -113,115 +113,117 @@ pub fn units_of_flip(
     }
 }
 
-// Gate j: refusals 5, 6, 7 and 22, else its words, the figure word 0.
-fn load_gate(middle: &[u8], inputs: usize, j: usize, words: &mut [u32]) -> Result<(), Refusal>
-    requires record_bytes_in_bounds { record_at j + record_bytes ≤ length middle.now }
-    requires j_in_bounds { figure_index j < length words.old }
-    requires inputs_le_most_inputs { (inputs ≤ most_inputs) × (j < most_gates) }
-    ensures value { result ≡ gate_refusal middle.now inputs j }
-    ensures words_after { result ≡ Fine → words.new ≡ sets words.old (gate_index j) (record_words middle.now j) }
-{
-    let at = RECORD_BYTES * j;
-    let count = u32::from(middle[at]);
-    let used = area::index(count);
-    let table = two_bytes(middle, at + TABLE);
-    let pins = four_numbers(middle, at + PINS);
-    if !rules::gate_shape(used, table, pins) {
-        return Err(Refusal {
-            cause: Cause::GateShape,
-            place: j as u32,
-        });
-    }
-    if !rules::used_below(inputs + j, used, pins) {
-        return Err(Refusal {
-            cause: Cause::GatePin,
-            place: j as u32,
-        });
-    }
-    let field = eight_bytes(middle, at + FIELD);
-    let units = units_of_flip(middle[at + KIND], field, Cause::GateFlip, j as u32)?;
-    let gate = [count, table, pins[0], pins[1], pins[2], pins[3], units, 0];
-    area::store(words, area::gate_index(j), &gate[..]);
-    Ok(())
-}
-
-// Each gate in turn.
-fn load_gates(middle: &[u8], inputs: usize, gates: usize, words: &mut [u32]) -> Result<(), Refusal>
-    requires gates_in_bounds { record_at gates ≤ length middle.now }
-    requires gates_in_bounds_2 { outputs_index gates ≤ length words.old }
-    requires inputs_le_most_inputs { (inputs ≤ most_inputs) × (gates ≤ most_gates) }
-    ensures value { result ≡ lowest (gate_refusal middle.now inputs) gates }
-    ensures words_after { result ≡ Fine → words.new ≡ sets words.old head_words (gate_list middle.now gates) }
-{
-    for j in 0..gates {
-        load_gate(middle, inputs, j, words)?;
-    }
-    Ok(())
-}
-
-// Output k: refusal 8, else its word.
-fn load_output(
-    middle: &[u8],
-    inputs: usize,
-    gates: usize,
-    k: usize,
-    words: &mut [u32],
-) -> Result<(), Refusal>
-    requires output_bytes_in_bounds { middle_bytes gates k + output_bytes ≤ length middle.now }
-    requires k_in_bounds { outputs_index gates + k < length words.old }
-    requires inputs_le_most_inputs { (inputs ≤ most_inputs) × (gates ≤ most_gates) × (k < most_outputs) }
-    ensures value { result ≡ output_refusal middle.now inputs gates k }
-    ensures words_after { result ≡ Fine → words.new ≡ sets words.old (outputs_index gates + k) (output_word middle.now gates k) }
-{
-    let source = two_bytes(middle, RECORD_BYTES * gates + OUTPUT_BYTES * k);
-    if area::index(source) >= inputs + gates {
-        return Err(Refusal {
-            cause: Cause::OutputSource,
-            place: k as u32,
-        });
-    }
-    words[area::outputs_index(gates) + k] = source;
-    Ok(())
-}
-
-// Each output in turn.
-fn load_outputs(
-    middle: &[u8],
+// The records and the output words of an image, and the counts that its trailer gives.
+#[derive(Clone, Copy)]
+struct Records<'a> {
+    bytes: &'a [u8],
     inputs: usize,
     gates: usize,
     outputs: usize,
-    words: &mut [u32],
-) -> Result<(), Refusal>
-    requires outputs_in_bounds { middle_bytes gates outputs ≤ length middle.now }
-    requires outputs_in_bounds_2 { needed gates outputs ≤ length words.old }
-    requires inputs_le_most_inputs { (inputs ≤ most_inputs) × (gates ≤ most_gates) × (outputs ≤ most_outputs) }
-    ensures value { result ≡ lowest (output_refusal middle.now inputs gates) outputs }
-    ensures words_after { result ≡ Fine → words.new ≡ sets words.old (outputs_index gates) (output_list middle.now gates outputs) }
-{
-    for k in 0..outputs {
-        load_output(middle, inputs, gates, k, words)?;
-    }
-    Ok(())
 }
 
-// The head of the area, and after it the gates and the outputs of an image's middle.
-fn load_middle(
-    middle: &[u8],
-    inputs: usize,
-    gates: usize,
-    outputs: usize,
-    words: &mut [u32],
-) -> Result<(), Refusal>
-    requires outputs_in_bounds { middle_bytes gates outputs ≤ length middle.now }
-    requires most_words_in_bounds { most_words ≤ length words.old }
-    requires inputs_le_most_inputs { (inputs ≤ most_inputs) × (gates ≤ most_gates) × (outputs ≤ most_outputs) }
-    ensures value { result ≡ middle_refusal middle.now inputs gates outputs }
-    ensures words_after { result ≡ Fine → words.new ≡ sets words.old 0 (middle_words middle.now inputs gates outputs) }
-{
-    let head = [inputs as u32, gates as u32, outputs as u32, 0, 0, 0, 0, 0];
-    area::store(words, 0, &head[..]);
-    load_gates(middle, inputs, gates, words)?;
-    load_outputs(middle, inputs, gates, outputs, words)
+impl Records<'_> {
+    // Gate j: refusals 5, 6, 7 and 22, else its words, the figure word 0.
+    fn load_gate(&self, j: usize, words: &mut [u32]) -> Result<(), Refusal>
+        requires record_bytes_in_bounds { record_at j + record_bytes ≤ length self.now.bytes.now }
+        requires j_in_bounds { figure_index j < length words.old }
+        requires inputs_le_most_inputs { (self.now.inputs ≤ most_inputs) × (j < most_gates) }
+        ensures value { result ≡ gate_refusal self.now.bytes.now self.now.inputs j }
+        ensures words_after { result ≡ Fine → words.new ≡ sets words.old (gate_index j) (record_words self.now.bytes.now j) }
+    {
+        let at = RECORD_BYTES * j;
+        let count = u32::from(self.bytes[at]);
+        let used = area::index(count);
+        let table = two_bytes(self.bytes, at + TABLE);
+        let pins = four_numbers(self.bytes, at + PINS);
+        if !rules::gate_shape(used, table, pins) {
+            return Err(Refusal {
+                cause: Cause::GateShape,
+                place: j as u32,
+            });
+        }
+        if !rules::used_below(self.inputs + j, used, pins) {
+            return Err(Refusal {
+                cause: Cause::GatePin,
+                place: j as u32,
+            });
+        }
+        let field = eight_bytes(self.bytes, at + FIELD);
+        let units = units_of_flip(self.bytes[at + KIND], field, Cause::GateFlip, j as u32)?;
+        let gate = [count, table, pins[0], pins[1], pins[2], pins[3], units, 0];
+        area::store(words, area::gate_index(j), &gate[..]);
+        Ok(())
+    }
+
+    // Each gate in turn.
+    fn load_gates(&self, words: &mut [u32]) -> Result<(), Refusal>
+        requires gates_in_bounds { record_at self.now.gates ≤ length self.now.bytes.now }
+        requires gates_in_bounds_2 { outputs_index self.now.gates ≤ length words.old }
+        requires inputs_le_most_inputs { (self.now.inputs ≤ most_inputs) × (self.now.gates ≤ most_gates) }
+        ensures value { result ≡ lowest (gate_refusal self.now.bytes.now self.now.inputs) self.now.gates }
+        ensures words_after { result ≡ Fine → words.new ≡ sets words.old head_words (gate_list self.now.bytes.now self.now.gates) }
+    {
+        for j in 0..self.gates {
+            self.load_gate(j, words)?;
+        }
+        Ok(())
+    }
+
+    // Output k: refusal 8, else its word.
+    fn load_output(&self, k: usize, words: &mut [u32]) -> Result<(), Refusal>
+        requires output_bytes_in_bounds { middle_bytes self.now.gates k + output_bytes ≤ length self.now.bytes.now }
+        requires k_in_bounds { outputs_index self.now.gates + k < length words.old }
+        requires inputs_le_most_inputs { (self.now.inputs ≤ most_inputs) × (self.now.gates ≤ most_gates) × (k < most_outputs) }
+        ensures value { result ≡ output_refusal self.now.bytes.now self.now.inputs self.now.gates k }
+        ensures words_after { result ≡ Fine → words.new ≡ sets words.old (outputs_index self.now.gates + k) (output_word self.now.bytes.now self.now.gates k) }
+    {
+        let source = two_bytes(self.bytes, RECORD_BYTES * self.gates + OUTPUT_BYTES * k);
+        if area::index(source) >= self.inputs + self.gates {
+            return Err(Refusal {
+                cause: Cause::OutputSource,
+                place: k as u32,
+            });
+        }
+        words[area::outputs_index(self.gates) + k] = source;
+        Ok(())
+    }
+
+    // Each output in turn.
+    fn load_outputs(&self, words: &mut [u32]) -> Result<(), Refusal>
+        requires outputs_in_bounds { middle_bytes self.now.gates self.now.outputs ≤ length self.now.bytes.now }
+        requires outputs_in_bounds_2 { needed self.now.gates self.now.outputs ≤ length words.old }
+        requires inputs_le_most_inputs { (self.now.inputs ≤ most_inputs) × (self.now.gates ≤ most_gates) × (self.now.outputs ≤ most_outputs) }
+        ensures value { result ≡ lowest (output_refusal self.now.bytes.now self.now.inputs self.now.gates) self.now.outputs }
+        ensures words_after { result ≡ Fine → words.new ≡ sets words.old (outputs_index self.now.gates) (output_list self.now.bytes.now self.now.gates self.now.outputs) }
+    {
+        for k in 0..self.outputs {
+            self.load_output(k, words)?;
+        }
+        Ok(())
+    }
+
+    // The head of the area, and after it the gates and the outputs.
+    fn load(&self, words: &mut [u32]) -> Result<(), Refusal>
+        requires outputs_in_bounds { middle_bytes self.now.gates self.now.outputs ≤ length self.now.bytes.now }
+        requires most_words_in_bounds { most_words ≤ length words.old }
+        requires inputs_le_most_inputs { (self.now.inputs ≤ most_inputs) × (self.now.gates ≤ most_gates) × (self.now.outputs ≤ most_outputs) }
+        ensures value { result ≡ middle_refusal self.now.bytes.now self.now.inputs self.now.gates self.now.outputs }
+        ensures words_after { result ≡ Fine → words.new ≡ sets words.old 0 (middle_words self.now.bytes.now self.now.inputs self.now.gates self.now.outputs) }
+    {
+        let head = [
+            self.inputs as u32,
+            self.gates as u32,
+            self.outputs as u32,
+            0,
+            0,
+            0,
+            0,
+            0,
+        ];
+        area::store(words, 0, &head[..]);
+        self.load_gates(words)?;
+        self.load_outputs(words)
+    }
 }
 
 // Refusal 1 of an image that has a trailer.
@@ -303,7 +305,13 @@ fn load_netlist(image: &[u8], words: &mut [u32]) -> Result<(), Refusal>
     let gates = count(image, at + GATES);
     let outputs = count(image, at + OUTPUTS);
     let start = at - area::index(four_bytes(image, at + BACK));
-    load_middle(&image[start..at], inputs, gates, outputs, words)
+    let records = Records {
+        bytes: &image[start..at],
+        inputs,
+        gates,
+        outputs,
+    };
+    records.load(words)
 }
 
 // Reads an image, whatever its bytes, into the words of a work area whose figures are not worked out. The caller lends words enough for

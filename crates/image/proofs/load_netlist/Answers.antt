@@ -6,8 +6,8 @@ use Rattle.image.specs.Loading.{image_words}
 use Rattle.image.proofs.Middle.{part-middle, length-of-middle}
 use Rattle.image.proofs.load_netlist.Goals as goal
 
-pub load_middle-requires : goal.load_middle-requires
-load_middle-requires c =
+pub load-requires : goal.load-requires
+load-requires c =
     let bs = c.args.image.now in
     let t = c.requires.trailer_right in
     let whole = part-middle bs c.index.result t (c.index.ensures ∙ c.four_bytes.ensures) in
@@ -16,4 +16,4 @@ load_middle-requires c =
 pub returns : goal.returns
 unfolding image_words
 returns c =
-    let whole = part-middle c.args.image.now c.index.result c.requires.trailer_right (c.index.ensures ∙ c.four_bytes.ensures) in record { value = cc; words_after = λ e. let stored = c.load_middle.ensures.words_after e in cc }
+    let whole = part-middle c.args.image.now c.index.result c.requires.trailer_right (c.index.ensures ∙ c.four_bytes.ensures) in record { value = cc; words_after = λ e. let stored = c.load.ensures.words_after e in cc }

@@ -1,25 +1,25 @@
--- `image::load_middle` meets its contract. Assumes nothing.
+-- `image::Records::load` meets its contract. Assumes nothing.
 use mathlib.Core.Path.{sym, ◌∙◌}
 use Rattle.refusal.specs.Judgement.{lowest}
 use Rattle.refusal.proofs.Laws.{otherwise-second}
 use Rattle.image.specs.Refusals.{gate_refusal, middle_refusal}
 use Rattle.image.proofs.Passed.{first-refused-on}
 use Rattle.image.proofs.Middle.{middle-words}
-use Rattle.image.proofs.load_middle.Goals as goal
+use Rattle.image.proofs.Records.load.Goals as goal
 
 pub returns : goal.returns
 unfolding middle_refusal
 returns c =
     let a = c.args in
-    let m = a.middle.now in
+    let m = a.self.now.bytes.now in
     let gs = c.load_gates in
     let os = c.load_outputs in
     let told = c.in_ok-load_gates.was in
-    let rest = otherwise-second (lowest (gate_refusal m a.inputs) a.gates) _ (sym gs.ensures.value ∙ told) in
+    let rest = otherwise-second (lowest (gate_refusal m a.self.now.inputs) a.self.now.gates) _ (sym gs.ensures.value ∙ told) in
     let stored = c.store.ensures in
     record {
       value = os.ensures.value ∙ sym rest;
-      words_after = λ e. middle-words m a.inputs a.gates a.outputs a.words.now _ _ _ stored (gs.ensures.words_after told) (os.ensures.words_after e);
+      words_after = λ e. middle-words m a.self.now.inputs a.self.now.gates a.self.now.outputs a.words.now _ _ _ stored (gs.ensures.words_after told) (os.ensures.words_after e);
     }
 
 pub returns-in_err-load_gates : goal.returns-in_err-load_gates
