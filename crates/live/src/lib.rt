@@ -90,10 +90,14 @@ pub fn live_gates(readers: &[u32; area::MOST_SOURCES], inputs: usize, gates: usi
     requires { inputs + gates ≤ layout.most_sources }
     ensures { result ≡ live_counted readers.now inputs gates }
 {
-    readers[inputs..inputs + gates]
-        .iter()
-        .filter(|many| 0 < **many)
-        .count() as u32
+    // Tried as a filter of the part that counts: `bench::open` took 1.03 times the instructions and 1.06 times as long.
+    let mut live = 0;
+    for gate in 0..gates {
+        if 0 < readers[inputs + gate] {
+            live += 1;
+        }
+    }
+    live
 }
 
 // A raw flip sum after the flip of one gate, whose source has so many readers, has gone from `old` to `new`.

@@ -1,29 +1,32 @@
--- `live::live_gates` meets its contract: those with a reader are counted. Assumes nothing.
-use Rattle.std.proofs.Common.{rules, ◌≡◌, cond, List, ◌∷◌, ℕ, zero, suc, ◌+◌, ◌-◌, ◌≤◌, length, get_or, take, drop, refl, sym, ◌∙◌, arith, drop-cons}
-use Rattle.std.specs.List.{count_by, filter}
-use Rattle.std.proofs.lemmas.List.Sums.{length-filter}
-use Rattle.std.proofs.Math.Dec.{ltb}
-use Rattle.std.proofs.lemmas.Bool.{lt-ltb}
-use Rattle.figure.specs.Figure.{bit_of}
-use Rattle.netlist.specs.Live.{is_live}
-use Rattle.live.specs.Counted.{live_counted}
+-- `live::live_gates` meets its contract: what was counted and what is left come to the whole. Assumes nothing.
+use Prim.Native.Nat.{◌+◌, ◌<◌}
+use mathlib.Core.Path.{◌≡◌}
+use native.Mathlib.Nat.{zero-add, add-zero, sub-zero}
+use native.Mathlib.Omega.{arith}
+use Rattle.live.proofs.Counted.{live_more, live_same, live_end}
+use Rattle.live.proofs.live_gates.Goals.{then-readers-inputs-gt0, else-readers-inputs-gt0}
 use Rattle.live.proofs.live_gates.Goals as goal
 
-counted : (xs : List ℕ) (s k : ℕ) → s + k ≤ length xs → length (filter (ltb 0) (take k (drop s xs))) ≡ live_counted xs s k
-counted xs s zero few = refl
-counted xs s (suc k) few = rw (drop-cons xs s 0 (omega arith)) (go (get_or xs s 0) (counted xs (suc s) k (omega arith)))
-  where
-    go : (r : ℕ) → length (filter (ltb 0) (take k (drop (suc s) xs))) ≡ live_counted xs (suc s) k
-        → length (cond (ltb 0 r) (r ∷ filter (ltb 0) (take k (drop (suc s) xs))) (filter (ltb 0) (take k (drop (suc s) xs))))
-        ≡ bit_of (is_live r) + live_counted xs (suc s) k
-    go zero e = omega (arith, e)
-    go (suc r) e = rw (lt-ltb 0 (suc r) (omega arith)) (omega (arith, e))
+pub loop-gate-init : goal.loop-gate-init
+loop-gate-init c = (omega arith, simp (zero-add, add-zero, sub-zero))
+
+pub loop-gate-preserved : goal.loop-gate-preserved
+loop-gate-preserved c =
+    let l = c.loop-gate in
+    let a = c.args in
+    let inside : l.gate < a.gates = omega arith in
+    elim c.if-readers-inputs-gt0.branch [
+      | then-readers-inputs-gt0 w ↦
+          let more = live_more a.readers.now a.inputs l.gate a.gates inside (omega (arith, w.if-readers-inputs-gt0.true)) in
+          (omega arith, omega (arith, w.live-is))
+      | else-readers-inputs-gt0 w ↦
+          let same = live_same a.readers.now a.inputs l.gate a.gates inside (omega (arith, w.if-readers-inputs-gt0.false)) in
+          (omega arith, omega (arith, w.live-is))
+    ]
 
 pub returns : goal.returns
 returns c =
+    let l = c.loop-gate in
     let a = c.args in
-    let same : a.inputs + a.gates - a.inputs ≡ a.gates = omega arith in
-    let number : c.count.result ≡ count_by (ltb 0) (take (a.inputs + a.gates - a.inputs) (drop a.inputs a.readers.now)) = search rules in
-    rw same at number
-    ∙ sym (length-filter (ltb 0) (take a.gates (drop a.inputs a.readers.now)))
-    ∙ counted a.readers.now a.inputs a.gates (omega arith)
+    let end : l.gate ≡ a.gates = omega arith in
+    omega (arith, rw end at l.invariant.1, live_end a.readers.now (a.inputs + a.gates) a.gates)
