@@ -51,18 +51,15 @@ pub fn judge_count(words: &Words, wanted: Keyword, most: usize) -> Result<(), Re
     ensures { result ≡ over_fault (listed wanted (lines_in words.now 0)) most }
 {
     let mut left = most;
-    let mut k = 0;
-    while k < words.count {
-        let rest = statements::line_rest(words, k);
-        let many = run_many(key_at(words, k), wanted, rest);
+    for line in statements::lines_from(words, 0) {
+        let many = run_many(key_at(words, line.first), wanted, line.rest);
         if many > left {
             return Err(Refusal {
                 cause: Cause::TextModel,
-                place: words.line(k),
+                place: words.line(line.first),
             });
         }
         left -= many;
-        k += rest + 1;
     }
     Ok(())
 }

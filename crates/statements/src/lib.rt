@@ -328,17 +328,14 @@ pub fn fault(words: &Words, last: u32) -> Result<(), Refusal>
     ensures { result ≡ fault Phase.Before (lines_of (held words.now.text.now words.now.starts.now words.now.lines.now 0 words.now.count)) last }
 {
     let mut phase = Phase::Before;
-    let mut k = 0;
-    while k < words.count {
-        let rest = line_rest(words, k);
-        let Some(next) = fit(words, phase, k, rest) else {
+    for line in lines_from(words, 0) {
+        let Some(next) = fit(words, phase, line.first, line.rest) else {
             return Err(Refusal {
                 cause: Cause::TextLine,
-                place: words.line(k),
+                place: words.line(line.first),
             });
         };
         phase = next;
-        k += rest + 1;
     }
     match phase {
         Phase::Ended => Ok(()),

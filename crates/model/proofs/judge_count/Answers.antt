@@ -1,51 +1,41 @@
--- `model::judge_count` meets its contract. Assumes nothing.
+-- `model::judge_count` meets its contract: what is left of the lines decides. Assumes nothing.
 use Rattle.statements.specs.declared.Keyword.{Keyword}
-use mathlib.Core.Path.{ap, sym, ◌∙◌}
+use mathlib.Core.Path.{◌≡◌, ap, sym, ◌∙◌}
 use native.Mathlib.Omega.{arith}
 use Rattle.refusal.specs.Judgement.{refused}
-use Rattle.model.specs.Tables.{run_many}
-use Rattle.model.proofs.Runs.{shorter, refuse-here, refuse-later}
+use Rattle.statements.proofs.Walking.{stepped}
+use Rattle.model.specs.Model.{listed}
+use Rattle.model.specs.Counts.{over_fault}
+use Rattle.model.specs.Tables.{run_many, key_in}
+use Rattle.model.proofs.Runs.{refuse-here, refuse-later, over_none, lines_end}
 use Rattle.model.proofs.judge_count.Goals as goal
 use Rattle.refusal.specs.declared.Cause.TheVariants.{TextModel}
 
 pub returns-then-many-left : goal.returns-then-many-left
 returns-then-many-left c =
-    let at-run-many = c.run_many-many in
-    let at-line-rest = c.line_rest-rest in
-    let at-loop-test = c.loop-k-test in
-    let l = c.loop-k in
+    let l = c.loop-line in
     let a = c.args in
-    let short = shorter a.words.now.text.now a.words.now.starts.now a.words.now.lines.now a.words.now.count l.k at-line-rest.result at-loop-test.true at-line-rest.ensures in
+    let w = a.words.now in
+    let s = stepped l.invariant.2 c.in-Some.ensures.steps in
+    let before = rw (sym s.here) at l.invariant.4 in
+    let many : c.run_many-many.result ≡ run_many (key_in w c.in-Some.line.first) a.wanted c.in-Some.line.rest =
+    c.run_many-many.ensures ∙ ap (λ (x : Keyword). run_many x a.wanted c.in-Some.line.rest) c.key_at.ensures in
     ap (refused TextModel) c.line.ensures
-    ∙ sym (refuse-here a.words.now.text.now a.words.now.starts.now a.words.now.lines.now a.words.now.count l.k at-line-rest.result at-loop-test.true at-line-rest.ensures a.wanted at-run-many.result (at-run-many.ensures ∙ ap (λ (x : Keyword). run_many x a.wanted at-line-rest.result) c.key_at.ensures) l.left c.if-many-left.true)
-    ∙ l.invariant.2
+    ∙ sym (refuse-here w.text.now w.starts.now w.lines.now w.count _ _ s.inside s.words a.wanted c.run_many-many.result many l.left c.if-many-left.true)
+    ∙ before
 
-pub overflow_add-k : goal.overflow_add-k
-overflow_add-k c =
-    let at-line-rest = c.line_rest-rest in
-    let at-loop-test = c.loop-k-test in
-    let l = c.loop-k in
+pub loop-line-preserved : goal.loop-line-preserved
+loop-line-preserved c =
+    let l = c.loop-line in
     let a = c.args in
-    let short = shorter a.words.now.text.now a.words.now.starts.now a.words.now.lines.now a.words.now.count l.k at-line-rest.result at-loop-test.true at-line-rest.ensures in
-    omega (arith, short, at-loop-test.true)
-
-pub overflow_add-k-in-loop-k : goal.overflow_add-k-in-loop-k
-overflow_add-k-in-loop-k c =
-    let at-line-rest = c.line_rest-rest in
-    let at-loop-test = c.loop-k-test in
-    let l = c.loop-k in
-    let a = c.args in
-    let short = shorter a.words.now.text.now a.words.now.starts.now a.words.now.lines.now a.words.now.count l.k at-line-rest.result at-loop-test.true at-line-rest.ensures in
-    omega (arith, short, at-loop-test.true)
-
-pub loop-k-preserved : goal.loop-k-preserved
-loop-k-preserved c =
-    let at-line-rest = c.line_rest-rest in
-    let at-loop-test = c.loop-k-test in
-    let l = c.loop-k in
-    let a = c.args in
-    let short = shorter a.words.now.text.now a.words.now.starts.now a.words.now.lines.now a.words.now.count l.k at-line-rest.result at-loop-test.true at-line-rest.ensures in (
-      omega (arith, short, at-loop-test.true),
+    let w = a.words.now in
+    let s = stepped l.invariant.2 c.in-Some.ensures.steps in
+    let before = rw (sym s.here) at l.invariant.4 in
+    let many : c.run_many-many.result ≡ run_many (key_in w c.in-Some.line.first) a.wanted c.in-Some.line.rest =
+    c.run_many-many.ensures ∙ ap (λ (x : Keyword). run_many x a.wanted c.in-Some.line.rest) c.key_at.ensures in (
+      rw (s.goes_on.count, s.goes_on.numbers) c.requires.0.1,
+      tt,
+      s.goes_on,
       omega arith,
-      sym (refuse-later a.words.now.text.now a.words.now.starts.now a.words.now.lines.now a.words.now.count l.k at-line-rest.result at-loop-test.true at-line-rest.ensures a.wanted c.run_many-many.result (c.run_many-many.ensures ∙ ap (λ (x : Keyword). run_many x a.wanted at-line-rest.result) c.key_at.ensures) l.left c.if-many-left.false) ∙ l.invariant.2,
+      rw s.next (sym (refuse-later w.text.now w.starts.now w.lines.now w.count _ _ s.inside s.words a.wanted c.run_many-many.result many l.left c.if-many-left.false) ∙ before),
     )
