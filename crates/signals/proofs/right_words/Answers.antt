@@ -1,16 +1,11 @@
 -- `signals::right_words` meets its contract: the inputs and the gates passed have their words. Assumes nothing.
 use Prim.Native.Nat.{◌<◌}
-use mathlib.Core.Path.{◌≡◌}
 use native.Mathlib.Nat.{add-zero}
 use native.Mathlib.Omega.{arith}
 use Rattle.area.specs.Layout as layout
 use Rattle.signals.proofs.Held.{first-held, gate-held}
 use Rattle.signals.proofs.right_words.Goals.{In-loop-gate}
 use Rattle.signals.proofs.right_words.Goals as goal
-
-pub input_words-words-requires : goal.input_words-words-requires
-input_words-words-requires c =
-    (c.requires.1, omega (arith, c.inputs.ensures, c.requires.0.inputs_fit))
 
 pub loop-gate-init : goal.loop-gate-init
 loop-gate-init c =
@@ -24,19 +19,8 @@ module _ (c : In-loop-gate) where
   inside : c.loop-gate.gate < layout.gates c.args.area.now
   inside = omega (arith, c.gates-gates.ensures)
 
-pub work_word-requires : goal.work_word-requires
-work_word-requires c =
-    (c.requires.0, inside (goal.at.work_word-requires c).In-loop-gate, c.loop-gate.invariant.long)
-
 pub loop-gate-preserved : goal.loop-gate-preserved
 loop-gate-preserved c =
     let l = c.loop-gate in
     let a = c.args in
     (gate-held a.area.now a.patterns.now c.requires.0 l.words _ l.gate (inside (goal.at.loop-gate-preserved c).In-loop-gate) c.work_word.ensures l.invariant)
-
-pub returns : goal.returns
-returns c =
-    let at-gates = c.gates-gates in
-    let l = c.loop-gate in
-    let end : l.gate ≡ layout.gates c.args.area.now = omega (arith, at-gates.ensures) in
-    rw end at l.invariant

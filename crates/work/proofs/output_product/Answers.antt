@@ -1,22 +1,18 @@
 -- `work::output_product` meets its contract: what is left of the outputs takes the product to its end. Assumes nothing.
 use Prim.Native.Nat.{ℕ, ◌+◌, ◌/◌, ◌≤◌, ◌<◌}
-use mathlib.Core.Path.{◌≡◌, refl, sym, ap, ◌∙◌}
+use mathlib.Core.Path.{◌≡◌, ap, ◌∙◌}
 use mathlib.Core.List.{List}
 use native.Mathlib.Omega.{arith}
-use lib.ListN.{length, get_or, drop_of_length-le}
+use lib.ListN.{length, get_or}
 use Rattle.rounding.specs.Rounding.{units_in_one}
 use Rattle.figure.specs.Figure.{output_step}
 use Rattle.figure.proofs.Laws.{output-at-most}
 use Rattle.area.specs.Layout.{inputs, gates, outputs, outputs_index, output_words, source_word}
-use Rattle.area.specs.Figures.{product_from}
 use Rattle.area.proofs.Words.{output-at, output_count, output-below}
 use Rattle.work.proofs.Sound.{source-word-fits}
 use Rattle.work.proofs.Loops.{product-turn}
 use Rattle.work.proofs.output_product.Goals.{After-index, After-source_word-word, In-loop-k}
 use Rattle.work.proofs.output_product.Goals as goal
-
-pub loop-k-init : goal.loop-k-init
-loop-k-init c = (c.requires.1, refl)
 
 -- a turn's output
 module _ (c : In-loop-k) where
@@ -34,15 +30,6 @@ module _ (c : In-loop-k) where
 
   inside : k < length (output_words ws)
   inside = omega (arith, used, output_count ws c.requires.0.net)
-
-pub overflow_add-start : goal.overflow_add-start
-overflow_add-start c = omega (arith, first c, used c, c.requires.0.net.gates_fit, c.requires.0.net.outputs_fit)
-
-pub offset_bounds-area-start : goal.offset_bounds-area-start
-offset_bounds-area-start c = omega (arith, first c, used c, c.requires.0.net.gates_fit, c.requires.0.net.outputs_fit)
-
-pub bounds-area-start : goal.bounds-area-start
-bounds-area-start c = omega (arith, first (goal.at.bounds-area-start c).In-loop-k, used (goal.at.bounds-area-start c).In-loop-k, c.requires.0.net.long)
 
 -- the source that it reads, and that source's word
 here : (c : After-index) → c.index.result ≡ get_or (output_words (ws (record { before = c.before.before.before; type_inv = record { area = c.shared_slice_known-1.given } }))) (k (record { before = c.before.before.before; type_inv = record { area = c.shared_slice_known-1.given } })) 0
@@ -75,10 +62,3 @@ loop-k-preserved c =
           (c.source_word-word.ensures ∙ ap (source_word (ws turn)) (here (goal.at.loop-k-preserved c).After-index)))
           l.invariant.1,
     )
-
-pub returns : goal.returns
-returns c =
-    let l = c.loop-k in
-    let os = output_words c.args.area.now in
-    let past : length os ≤ l.k = omega (arith, output_count c.args.area.now c.requires.0.net, c.outputs-count.ensures) in
-    sym (ap (product_from (source_word c.args.area.now) l.reliability) (drop_of_length-le os past)) ∙ l.invariant.1

@@ -1,20 +1,14 @@
 -- `work::reads_marked` meets its contract: the pins passed read no marked source. Assumes nothing.
 use Prim.Native.Nat.{ℕ, ◌≤◌, ◌<◌}
-use mathlib.Core.Path.{◌≡◌, refl, sym, ap, ◌∙◌}
+use mathlib.Core.Path.{◌≡◌, sym, ap, ◌∙◌}
 use native.Mathlib.Omega.{arith}
 use lib.ListN.{length, get_or, drop_of_length-le}
 use Rattle.area.specs.Layout.{pin_count, used_pins}
-use Rattle.area.proofs.Words.{gate-inside, used-count, used-pin, pin-below, few-sources}
+use Rattle.area.proofs.Words.{used-count, used-pin, pin-below, few-sources}
 use Rattle.work.specs.Work.{reads_marked}
 use Rattle.work.proofs.Loops.{marked-here, not-marked-here}
 use Rattle.work.proofs.reads_marked.Goals.{After-pin, In-loop-i}
 use Rattle.work.proofs.reads_marked.Goals as goal
-
-pub pin_count-count-requires : goal.pin_count-count-requires
-pin_count-count-requires c = gate-inside _ c.requires.workable.net _ c.requires.gate_bound
-
-pub loop-i-init : goal.loop-i-init
-loop-i-init c = refl
 
 -- a turn's pin: it is used, and it reads a source
 module _ (c : In-loop-i) where
@@ -26,12 +20,6 @@ module _ (c : In-loop-i) where
 
   inside : i < length (used_pins c.args.area.now c.args.gate)
   inside = omega (arith, used, used-count c.args.area.now c.requires.workable.net c.args.gate c.requires.gate_bound)
-
-pub pin-requires : goal.pin-requires
-pin-requires c = (
-  omega (arith, used c, (c.requires.workable.net.gate c.args.gate c.requires.gate_bound).few_pins),
-  gate-inside _ c.requires.workable.net _ c.requires.gate_bound,
-)
 
 -- the pin that a turn reads
 here : (c : After-pin) → c.pin.result ≡ get_or (used_pins c.args.area.now c.args.gate) (i (record { before = c.before.before; type_inv = record { area = c.shared_slice_known-1.given } })) 0

@@ -4,15 +4,12 @@ use mathlib.Core.Path.{◌≡◌, refl, ap, ◌∙◌}
 use native.Mathlib.Omega.{arith}
 use Rattle.figure.proofs.Under.{added}
 use Rattle.area.specs.Layout.{most_pins, inputs, gates, pin_count, pin, source_word}
-use Rattle.area.proofs.Words.{gate-inside, pin-below}
+use Rattle.area.proofs.Words.{pin-below}
 use Rattle.area.proofs.EachPin.{kept-none, kept_same, kept_more, going-first, going-last, going-small, going-without, going-kept}
 use Rattle.work.proofs.Sound.{source-word-fits}
 use Rattle.rounding.specs.Rounding.{units_in_one}
 use Rattle.work.proofs.split_pins.Goals.{then-word-lt2, else-word-lt2, After-pin, After-source_word-word, In-loop-i}
 use Rattle.work.proofs.split_pins.Goals as goal
-
-pub pin_count-count-requires : goal.pin_count-count-requires
-pin_count-count-requires c = gate-inside _ c.requires.workable.net _ c.requires.gate_bound
 
 pub loop-i-init : goal.loop-i-init
 loop-i-init c =
@@ -25,9 +22,6 @@ module _ (c : In-loop-i) where
 
   few : c.loop-i.i < most_pins
   few = omega (arith, used, (c.requires.workable.net.gate c.args.gate c.requires.gate_bound).few_pins)
-
-pub pin-requires : goal.pin-requires
-pin-requires c = (few c, gate-inside _ c.requires.workable.net _ c.requires.gate_bound)
 
 -- the source that it reads
 below : (c : After-pin) → c.pin.result < inputs c.args.area.now + gates c.args.area.now
@@ -55,28 +49,10 @@ module _ (c : After-source_word-word) where
   room : c.loop-i.kept < most_pins
   room = omega (arith, few (record { before = c.before.before.before; type_inv = record { area = c.shared_slice_known-1.given } }), c.loop-i.invariant.0.few)
 
-pub overflow_mul-start : goal.overflow_mul-start
-overflow_mul-start c = omega (arith, added (word (goal.at.overflow_mul-start c).After-source_word-word) c.loop-i.bit, (small (goal.at.overflow_mul-start c).After-source_word-word).0)
-
 pub overflow_add-start : goal.overflow_add-start
 overflow_add-start c =
     let there = (goal.at.overflow_add-start c).After-source_word-word in
     omega (arith, added (word there) c.loop-i.bit, (small there).0, (small there).1)
-
-pub offset_bounds-words-kept : goal.offset_bounds-words-kept
-offset_bounds-words-kept c = omega (arith, room (goal.at.offset_bounds-words-kept c).After-source_word-word)
-
-pub bounds-words-kept : goal.bounds-words-kept
-bounds-words-kept c = omega (arith, room (goal.at.bounds-words-kept c).After-source_word-word)
-
-pub offset_bounds-bits-kept : goal.offset_bounds-bits-kept
-offset_bounds-bits-kept c = omega (arith, room (goal.at.offset_bounds-bits-kept c).After-source_word-word)
-
-pub bounds-bits-kept : goal.bounds-bits-kept
-bounds-bits-kept c = omega (arith, room (goal.at.bounds-bits-kept c).After-source_word-word)
-
-pub overflow_add-kept : goal.overflow_add-kept
-overflow_add-kept c = omega (arith, room (goal.at.overflow_add-kept c).After-source_word-word)
 
 pub overflow_mul-bit : goal.overflow_mul-bit
 overflow_mul-bit c = omega (arith, (small (goal.at.overflow_mul-bit c).After-source_word-word).0)

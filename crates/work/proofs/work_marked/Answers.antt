@@ -1,31 +1,16 @@
 -- `work::work_marked` meets its contract: what is left to work out comes to the same, and the area stays workable. Assumes nothing.
-use Prim.Native.Nat.{ℕ, ◌+◌, ◌-◌, ◌<◌}
+use Prim.Native.Nat.{ℕ, ◌+◌, ◌<◌}
 use mathlib.Core.Bool.{Bool, true, false}
-use mathlib.Core.Path.{◌≡◌, refl, sym, ap, ◌∙◌}
+use mathlib.Core.Path.{◌≡◌, sym, ap, ◌∙◌}
 use native.Mathlib.Omega.{arith}
 use lib.ListN.{length, set}
 use Rattle.area.specs.Layout.{inputs, gates, used_pins}
-use Rattle.work.specs.Work.{reads_marked, work_if, mark_if, work_marked}
+use Rattle.work.specs.Work.{reads_marked, work_if, mark_if}
 use Rattle.work.proofs.Frame.{same_gates, same_inputs, same-work-if}
 use Rattle.work.proofs.Sound.{workable-work-if}
 use Rattle.work.proofs.Loops.{mark-if-length, marked_turn}
 use Rattle.work.proofs.work_marked.Goals.{then-reads_marked, else-reads_marked, Joined-reads_marked}
 use Rattle.work.proofs.work_marked.Goals as goal
-
-pub loop-gate-init : goal.loop-gate-init
-loop-gate-init c =
-    let e = c.gates-count.ensures in (
-      sym e,
-      sym c.inputs-n.ensures,
-      c.requires.workable,
-      refl,
-      omega arith,
-      ap (λ (m : ℕ). work_marked c.args.area.now c.args.marks c.args.from (m - c.args.from)) e,
-    )
-
-pub reads_marked-requires : goal.reads_marked-requires
-reads_marked-requires c =
-    let l = c.loop-gate in record { workable = l.invariant.2; gate_bound = omega (arith, l.invariant.0) }
 
 -- what a turn leaves: the gate worked out and marked where it reads a marked source
 module _ (c : Joined-reads_marked) where
@@ -62,9 +47,3 @@ loop-gate-preserved c =
       ap length t.marks ∙ mark-if-length t.marked a.marks (inputs a.area + a.gate) ∙ a.invariant.4,
       marked_turn a.area c.if-reads_marked.area a.marks c.if-reads_marked.marks a.gate _ t.marked (omega arith) t.reads t.words t.marks a.invariant.5,
     )
-
-pub returns : goal.returns
-returns c =
-    let l = c.loop-gate in
-    let none : c.gates-count.result - l.gate ≡ 0 = omega arith in
-    sym (ap (work_marked l.area l.marks l.gate) none) ∙ l.invariant.5
