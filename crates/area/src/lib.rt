@@ -1,4 +1,6 @@
 // The work area: where each of its words stands, and the limits of document 01. specs/Layout.antt has the same names; no other crate has the numbers.
+//
+// How long an area must be is asked in each contract and in no type: it is the slice that the caller lends, and these functions ask no more than they did.
 #![tactic(auto)]
 
 ghost use Rattle.std.specs.Prelude.{◌≡◌, ◌+◌, ◌<◌, ◌≤◌, length, get_or, set};

@@ -109,7 +109,7 @@ fn whole_field(field: [u8; 8]) -> u64
     u64::from_le_bytes(field)
 }
 
-// Reads a flip field, whatever its bytes.
+// Reads a flip field, whatever its bytes. The kind is the byte of the image or of the call in C.
 pub fn read_flip(kind: u8, field: [u8; 8]) -> Option<Flip>
     ensures { result ≡ read_flip kind field }
 {

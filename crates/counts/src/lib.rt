@@ -164,6 +164,7 @@ impl Circuit<'_> {
             × ((s : ℕ) → layout.inputs self.now.area.now + result ≤ s → get_or changed.new s 0 ≡ 0) }
     {
         let mut window = window;
+        // No range has the gates of a window, which grows and jumps while it is followed.
         while window.gate < window.stop {
             window = self.follow_gate(changed, window);
         }
@@ -324,13 +325,15 @@ fn count_worked(
     requires counts_ready { CountsReady (layout.gates area.now) counts.old }
     ensures { CountsAdded method (net_of area.now [] []) patterns.now counts.old counts.new }
 {
+    // The method is a value that the caller of the bench gives, so it is matched and no function is passed.
     match method {
         Method::Flip => flip_gates(counts, area, words, patterns),
         Method::Mask => mask_gates(counts, area, words, patterns),
     }
 }
 
-// What is counted of a block of at most 64 patterns. The right words are lent where they are made, in one place on the stack.
+// What is counted of a block of at most 64 patterns. Counts, area and patterns are what `count` is lent, each by itself. The right words are lent where
+// they are made, in one place on the stack.
 fn count_block(counts: &mut [u32], area: &[u32], patterns: &[u32], method: Method)
     requires net_sound { NetSound area.now × (length patterns.now ≤ lane_count) }
     requires counts_ready { CountsReady (layout.gates area.now) counts.old }

@@ -184,7 +184,7 @@ fn word_of(last: u32, flip: u32, right: u32) -> u32
     2 * gate_step(last, flip) + right
 }
 
-// A gate's word where no pin can fail: the right answer, and the flip for its failure.
+// A gate's word where no pin can fail, from plain numbers as `pins_word` has them: the right answer, and the flip for its failure.
 fn word_none(table: u32, start: u32, flip: u32) -> u32
     requires { (start ≤ 15) × (flip ≤ units_in_one) }
     ensures { result ≡ pins_word units_in_one table start [] flip }

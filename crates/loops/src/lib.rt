@@ -99,6 +99,7 @@ fn on_itself(clear: &[u16; area::MOST_GATES], sources: Sources, gates: usize, ga
     let mut pile = [0u16; PILE];
     pile[0] = gate as u16;
     let mut top = 1;
+    // The pile grows while it is gone through.
     while top > 0 {
         let at = usize::from(pile[top - 1]);
         top = mark_gate(&mut marks, &mut pile, top - 1, sources, at);

@@ -71,7 +71,7 @@ pub fn resolve(
     Ok(())
 }
 
-// The sources of one gate, whose line begins with word `head`.
+// The sources of one gate, whose line begins with word `head`. The tables are filled here, and lent to readers as `Sources` afterwards.
 fn resolve_gate(
     names: &Words,
     words: &Words,

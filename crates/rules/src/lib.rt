@@ -10,7 +10,7 @@ ghost use Rattle.area.specs.Rules.{gate_shape, used_below, gate_sound, gates_sou
 
 use refusal::{Cause, Refusal};
 
-// Rule 5, the truth table: no bit at or above 2^count.
+// Rule 5, the truth table: no bit at or above 2^count. A pin count is a plain number here, asked to be at most four: `gate_shape` judges any.
 fn table_fits(count: usize, table: u32) -> bool
     requires { count ≤ layout.most_pins }
     ensures { result ≡ ltb table (2 ^ 2 ^ count) }

@@ -100,7 +100,7 @@ pub fn word_of(words: &[u64; area::MOST_SOURCES], source: u32) -> u64
     words[area::index(source)]
 }
 
-// A gate's word.
+// A gate's word. That the area is sound and has the gate is asked in each contract: it is the slice that the caller lends.
 pub fn gate_word(words: &[u64; area::MOST_SOURCES], area: &[u32], gate: usize) -> u64
     requires { NetSound area.now × (gate < layout.gates area.now) }
     ensures { result ≡ get_or words.now (layout.inputs area.now + gate) 0 }

@@ -143,7 +143,7 @@ pub struct Found {
     pub last: u32,
 }
 
-// Enters a word that starts at `at`, if one does, as word n.
+// Enters a word that starts at `at`, if one does, as word n. Two tables, as the definitions `Read` and `held` speak of them.
 fn note(
     starts: &mut [u16; MOST_WORDS],
     lines: &mut [u16; MOST_WORDS],

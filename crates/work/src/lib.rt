@@ -1,6 +1,6 @@
 // Working out on a work area: reading a source, working out gates, dependents and the reliability. Every function here asks for an area whose netlist
 // and figures keep rule 14 (`Workable`); the calls judge the area first. Words 5 to 7, the raw flip sum and the
-// reserved word, are neither read nor written here.
+// reserved word, are neither read nor written here. `Workable` stands in each contract and in no type: the area is the slice that the caller lends.
 #![tactic(auto)]
 
 ghost use Rattle.std.specs.Prelude.{◌≡◌, map, ℕ, ◌+◌, ◌-◌, ◌/◌, ◌<◌, ◌≤◌, get_or};
