@@ -194,7 +194,8 @@ impl Records<'_> {
         requires outputs_in_bounds_2 { needed self.now.gates self.now.outputs ≤ length words.old }
         requires inputs_le_most_inputs { (self.now.inputs ≤ most_inputs) × (self.now.gates ≤ most_gates) × (self.now.outputs ≤ most_outputs) }
         ensures value { result ≡ lowest (output_refusal self.now.bytes.now self.now.inputs self.now.gates) self.now.outputs }
-        ensures words_after { result ≡ Fine → words.new ≡ sets words.old (outputs_index self.now.gates) (output_list self.now.bytes.now self.now.gates self.now.outputs) }
+        ensures words_after { result ≡ Fine
+            → words.new ≡ sets words.old (outputs_index self.now.gates) (output_list self.now.bytes.now self.now.gates self.now.outputs) }
     {
         for k in 0..self.outputs {
             self.load_output(k, words)?;

@@ -13,4 +13,4 @@ invariant-loop-line l =
     × Walks l.words l.line-iterator
     × (l.left ≤ l.most)
     × (over_fault (listed l.wanted (lines_from l.words.text.now l.words.starts.now l.words.lines.now l.words.count l.line-iterator.at)) l.left
-        ≡ over_fault (listed l.wanted (lines_from l.words.text.now l.words.starts.now l.words.lines.now l.words.count 0)) l.most)
+    ≡ over_fault (listed l.wanted (lines_from l.words.text.now l.words.starts.now l.words.lines.now l.words.count 0)) l.most)

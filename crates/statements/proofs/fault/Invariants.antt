@@ -14,4 +14,4 @@ invariant-loop-line l =
     × (goal.iterator-loop-line).is_finite l.line-iterator
     × Walks l.words l.line-iterator
     × (fault_from l.words.text.now l.words.starts.now l.words.lines.now l.words.count l.last l.phase l.line-iterator.at
-        ≡ fault Before (lines_of (held l.words.text.now l.words.starts.now l.words.lines.now 0 l.words.count)) l.last)
+    ≡ fault Before (lines_of (held l.words.text.now l.words.starts.now l.words.lines.now 0 l.words.count)) l.last)
