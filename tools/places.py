@@ -91,7 +91,7 @@ def together(made):
     return sorted({f for g in groups.values() if len(g) > 2 for f in g})
 
 
-ARRAYS = [("starts", "lines"), ("names", "numbers"), ("first", "end"), ("words", "bits"), ("pins", "counts"), ("next", "unseen"), ("place", "order")]
+ARRAYS = [("starts", "lines"), ("names", "numbers"), ("first", "end"), ("words", "bits"), ("pins", "counts"), ("next", "unseen")]
 LENGTHS = [("starts", "n"), ("names", "many"), ("heads", "gates"), ("outs", "outputs"), ("lines", "n")]
 
 
