@@ -127,7 +127,7 @@
  * type will do. Pointers are aligned for their type. What one pointer of a call can write must not
  * overlap what another pointer of the same call names, and no other thread touches it meanwhile.
  *
- * bench_compare takes up to 264 KB of stack, bench_average 168 KB, bench_read_blif 96 KB,
+ * bench_compare takes up to 228 KB of stack, bench_average 168 KB, bench_read_blif 96 KB,
  * bench_error_of_image 74 KB, bench_shared_reliability 54 KB, bench_open 46 KB, bench_counts_by_flip and
  * bench_counts_by_mask 36 KB, the other calls less. No call allocates memory, and calls that name no area
  * or slice in common may run at the same time.

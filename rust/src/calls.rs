@@ -385,7 +385,7 @@ pub fn shared_reliability(image: &[u8], pattern: u32) -> Result<u32, Refusal> {
 
 /// Which of two modules stands higher, on the average of all patterns: decided where twice the
 /// averages differ by more than both errors and 2, and then the exact averages differ in the same
-/// direction. It takes no area, and up to 264 KB of stack.
+/// direction. It takes no area, and up to 228 KB of stack.
 ///
 /// Refused: 1 to 9 and 22 of the first image as [`open`] does, then of the second.
 pub fn compare(first: &[u8], second: &[u8]) -> Result<Comparison, ImageRefusal> {
