@@ -11,7 +11,8 @@ ghost use Rattle.rows.specs.Rows.{row_length, row_words, EachEntry, RowStored};
 ghost use Rattle.folds.specs.Gates.{RowsReady, RightHere, failure_from};
 ghost use Rattle.folds.specs.Failing.{wrong_in, InvertedAt, InputsBelow, FailingEnd, RightFor, last_in};
 
-// The lowest pin of a gate that may fail, which is to say reads no input; the pin count where there is none.
+// The lowest pin of a gate that may fail, which is to say reads no input; the pin count where there is none. A number here and below, and no Option, as
+// `InputsBelow` and `FailingEnd` have it.
 fn lowest_failing(area: &[u32], gate: usize) -> usize
     requires { NetSound area.now × (gate < layout.gates area.now) }
     ensures { InputsBelow area.now gate result }

@@ -203,7 +203,7 @@ impl Records<'_> {
         Ok(())
     }
 
-    // The head of the area, and after it the gates and the outputs.
+    // The head of the area, and after it the gates and the outputs. The words are lent by the caller, who is asked for room for every netlist.
     fn load(&self, words: &mut [u32]) -> Result<(), Refusal>
         requires outputs_in_bounds { middle_bytes self.now.gates self.now.outputs ≤ length self.now.bytes.now }
         requires most_words_in_bounds { most_words ≤ length words.old }

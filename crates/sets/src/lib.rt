@@ -65,7 +65,8 @@ struct Marked<'a> {
 }
 
 impl Marked<'_> {
-    // The marked gates from `from` on worked out in order, up to the first shared one, which is handed back; the number of gates where there is none.
+    // The marked gates from `from` on worked out in order, up to the first shared one, which is handed back; the number of gates where there is none, since
+    // `WorkedTo` says of either that all before it are worked out.
     fn work_to_shared(&self, area: &mut [u32], from: usize) -> usize
         requires workable { Workable area.old × NextMarked self.now.marks.now self.now.next.now (layout.inputs area.old) (layout.gates area.old) 0 }
         requires from_bound { from ≤ layout.gates area.old }
