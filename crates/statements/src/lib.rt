@@ -175,6 +175,7 @@ fn after_value(width: usize, ending: Option<bool>, value: Option<bool>) -> Optio
 }
 
 // The words of a line after its first: `many` of them, from word `from` on.
+// `words` is held by value: behind a second reference nothing bounds the length of its tables.
 #[derive(Clone, Copy)]
 struct Part<'a> {
     words: Words<'a>,
