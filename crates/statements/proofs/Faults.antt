@@ -6,11 +6,11 @@ use mathlib.Core.Bool.{false}
 use mathlib.Core.List.{List, ◌∷◌}
 use native.Mathlib.Numerals.{add-one}
 use native.Mathlib.Omega.{arith}
-use lib.ListN.{get_or}
+use lib.ListN.{get_or, drop}
 use Rattle.refusal.specs.Judgement.{Judgement}
 use Rattle.refusal.specs.Judgement.{refused}
 use Rattle.refusal.specs.Judgement.{refuse_unless}
-use Rattle.texts.specs.Words.{held}
+use Rattle.texts.specs.Words.{word_of, held}
 use Rattle.statements.specs.Lines.{line_of, lines_of, bytes_from, alike}
 use Rattle.statements.specs.Fit.{fit, is_ended, fault}
 use Rattle.statements.specs.declared.Phase.{Phase}
@@ -33,11 +33,16 @@ module _ (t s l : List ℕ) (n last : ℕ) (p : Phase) (k r : ℕ) (inside : k <
       left : n - (k + 1) - r ≡ n - (k + suc r)
       left = omega arith
 
-  pub fault-here : None ≡ fit p (bytes_from t s k (r + 1)) → fault_from t s l n last p k ≡ refused TextLine (get_or l k 0)
-  fault-here e = rw (split, ← e)
+  -- the line's first word, and those after it
+  module _ (x : List ℕ) (first : x ≡ word_of (drop (get_or s k 0) t)) where
+    line_words : x ∷ bytes_from t s (k + 1) r ≡ bytes_from t s k (r + 1)
+    line_words = rw (first, add-one k, add-one r)
 
-  pub fault-later : (q : Phase) → Some q ≡ fit p (bytes_from t s k (r + 1)) → fault_from t s l n last p k ≡ fault_from t s l n last q (k + (r + 1))
-  fault-later q e = rw (split, ← e)
+    pub fault-here : None ≡ fit p (x ∷ bytes_from t s (k + 1) r) → fault_from t s l n last p k ≡ refused TextLine (get_or l k 0)
+    fault-here e = rw (split, ← line_words, ← e)
+
+    pub fault-later : (q : Phase) → Some q ≡ fit p (x ∷ bytes_from t s (k + 1) r) → fault_from t s l n last p k ≡ fault_from t s l n last q (k + (r + 1))
+    fault-later q e = rw (split, ← line_words, ← e)
 
 pub fault-end : (t s l : List ℕ) (n last : ℕ) (p : Phase) (k : ℕ) → n ≤ k → fault_from t s l n last p k ≡ refuse_unless (is_ended p) TextLine last
 fault-end t s l n last p k past = rw none

@@ -13,6 +13,8 @@ use Rattle.texts.specs.Words.{word_of, word_at, held}
 use Rattle.names.specs.Names.{is_name}
 use Rattle.statements.specs.Lines.{Line, line_of, joined, lines_of, bytes_from, alike, Places}
 use Rattle.statements.specs.Fit.{all_names}
+use Rattle.statements.specs.declared.Part.{Part}
+use Rattle.statements.specs.Part.{bytes_in}
 
 -- one less is left
 pub one_less : (n i : ℕ) → i < n → n - i ≡ suc (n - (i + 1))
@@ -29,6 +31,9 @@ bytes-at t s i (suc k) (suc j) h = bytes-at t s (suc i) k j (omega arith) ∙ rw
   where
     shift : suc i + j ≡ i + suc j
     shift = omega arith
+
+pub length-part : (p : Part) → length (bytes_in p) ≡ p.many
+length-part p = length-bytes p.words.text.now p.words.starts.now p.from p.many
 
 -- fewer places
 pub places-less : {t s : List ℕ} {n m : ℕ} → Places t s n → m ≤ n → Places t s m

@@ -1,4 +1,5 @@
 pub mod Lines
+pub mod Part
 pub mod Fit
 pub mod Statements
 pub mod Walk

@@ -1,10 +1,11 @@
 // The statements of a text: what a line is, and whether it fits (refusal 18).
 #![tactic(auto)]
 
-ghost use Rattle.std.specs.Prelude.{◌≡◌, ◌+◌, ◌-◌, ◌<◌, ◌≤◌, length, get_or};
+ghost use Rattle.std.specs.Prelude.{◌≡◌, ◌+◌, ◌-◌, ◌<◌, ◌≤◌, ◌∷◌, length, get_or};
 ghost use Rattle.std.specs.Iterator.{at_most};
 ghost use Rattle.statements.specs.Walk.{CanWalk, NextLine};
-ghost use Rattle.statements.specs.Lines.{PlacesTo, Lent, bytes_of, alike, lines_of};
+ghost use Rattle.statements.specs.Lines.{Lent, alike, lines_of};
+ghost use Rattle.statements.specs.Part.{Inside, bytes_in};
 ghost use Rattle.statements.specs.Fit.{keyword_of, all_names, value_of, row_byte, is_row, after_model, after_list, after_gate, after_end};
 ghost use Rattle.statements.specs.Fit.{after_value, after_line, after_first, after_heading, after_cover, fit, fault};
 ghost use Rattle.texts.specs.Words.{held};
@@ -51,27 +52,6 @@ pub fn keyword_of(w: &[u8]) -> Keyword
         return Keyword::End;
     }
     Keyword::Other
-}
-
-// Word k is a name.
-fn name_at(words: &Words, k: usize) -> bool
-    requires { HasWord words.now k }
-    ensures { result ≡ is_name (name_of words.now k) }
-{
-    names::is_name(words.word(k))
-}
-
-// The `many` words from word `from` on are names.
-fn all_names(words: &Words, from: usize, many: usize) -> bool
-    requires { PlacesTo words.now (from + many) }
-    ensures { result ≡ all_names (bytes_of words.now from many) }
-{
-    for k in from..from + many {
-        if !name_at(words, k) {
-            return false;
-        }
-    }
-    true
 }
 
 // How many words after word k of `count` stand in its line.
@@ -173,56 +153,6 @@ fn is_row(w: &[u8], width: usize) -> bool
     w.len() == width && w.iter().all(|b| row_byte(*b))
 }
 
-fn row_at(words: &Words, k: usize, width: usize) -> bool
-    requires { HasWord words.now k }
-    ensures { result ≡ is_row width (name_of words.now k) }
-{
-    is_row(words.word(k), width)
-}
-
-// What follows each kind of line that fits, whose words after the keyword are `many` from `from` on.
-#[tactic(auto, unfolding(crate::specs::Fit::after_model))]
-fn after_model(words: &Words, from: usize, many: usize) -> Option<Phase>
-    requires { PlacesTo words.now (from + many) }
-    ensures { result ≡ after_model (bytes_of words.now from many) }
-{
-    if many == 1 && all_names(words, from, many) {
-        Some(Phase::Heading)
-    } else {
-        None
-    }
-}
-
-#[tactic(auto, unfolding(crate::specs::Fit::after_list))]
-fn after_list(words: &Words, from: usize, many: usize) -> Option<Phase>
-    requires { PlacesTo words.now (from + many) }
-    ensures { result ≡ after_list (bytes_of words.now from many) }
-{
-    if all_names(words, from, many) {
-        Some(Phase::Heading)
-    } else {
-        None
-    }
-}
-
-// A gate's line: its sources, and its own name.
-const MOST_NAMES: usize = area::MOST_PINS + 1;
-
-#[tactic(auto, unfolding(crate::specs::Fit::after_gate))]
-fn after_gate(words: &Words, from: usize, many: usize) -> Option<Phase>
-    requires { PlacesTo words.now (from + many) }
-    ensures { result ≡ after_gate (bytes_of words.now from many) }
-{
-    if 1 <= many && many <= MOST_NAMES && all_names(words, from, many) {
-        Some(Phase::Cover {
-            width: many - 1,
-            ending: None,
-        })
-    } else {
-        None
-    }
-}
-
 #[tactic(auto, unfolding(crate::specs::Fit::after_end))]
 fn after_end(many: usize) -> Option<Phase>
     ensures { result ≡ after_end many }
@@ -244,81 +174,140 @@ fn after_value(width: usize, ending: Option<bool>, value: Option<bool>) -> Optio
     }
 }
 
-// A cover line of rest + 1 words from word k on.
-fn after_line(
-    words: &Words,
-    width: usize,
-    ending: Option<bool>,
-    k: usize,
-    rest: usize,
-) -> Option<Phase>
-    requires { PlacesTo words.now (k + (rest + 1)) }
-    ensures { result ≡ after_line width ending (bytes_of words.now k (rest + 1)) }
-{
-    match rest {
-        0 if width == 0 => after_value(width, ending, value_at(words, k)),
-        1 if width != 0 && row_at(words, k, width) => after_value(
-            width,
-            ending,
-            value_at(words, k + 1),
-        ),
-        _ => None,
-    }
+// The words of a line after its first: `many` of them, from word `from` on.
+// `words` is held by value: behind a second reference nothing bounds the length of its tables.
+#[derive(Clone, Copy)]
+struct Part<'a> {
+    words: Words<'a>,
+    from: usize,
+    many: usize,
 }
 
-fn after_first(words: &Words, key: Keyword, from: usize, many: usize) -> Option<Phase>
-    requires { PlacesTo words.now (from + many) }
-    ensures { result ≡ after_first key (bytes_of words.now from many) }
-{
-    match key {
-        Keyword::Model => after_model(words, from, many),
-        _ => None,
-    }
-}
+// A gate's line: its sources, and its own name.
+const MOST_NAMES: usize = area::MOST_PINS + 1;
 
-fn after_heading(words: &Words, key: Keyword, from: usize, many: usize) -> Option<Phase>
-    requires { PlacesTo words.now (from + many) }
-    ensures { result ≡ after_heading key (bytes_of words.now from many) }
-{
-    match key {
-        Keyword::Inputs | Keyword::Outputs => after_list(words, from, many),
-        Keyword::Names => after_gate(words, from, many),
-        Keyword::End => after_end(many),
-        _ => None,
+// What may follow a line that fits, kind by kind. `first` is its first word.
+impl Part<'_> {
+    fn are_names(&self) -> bool
+        requires { Inside self.now }
+        ensures { result ≡ all_names (bytes_in self.now) }
+    {
+        for k in self.from..self.from + self.many {
+            if !names::is_name(self.words.word(k)) {
+                return false;
+            }
+        }
+        true
     }
-}
 
-// A line of rest + 1 words from word k on, where a cover is open.
-fn after_cover(
-    words: &Words,
-    width: usize,
-    ending: Option<bool>,
-    key: Keyword,
-    k: usize,
-    rest: usize,
-) -> Option<Phase>
-    requires { PlacesTo words.now (k + (rest + 1)) }
-    ensures { result ≡ after_cover width ending key (name_of words.now k) (bytes_of words.now (k + 1) rest) }
-{
-    match key {
-        Keyword::Names => after_gate(words, k + 1, rest),
-        Keyword::End => after_end(rest),
-        Keyword::Other => after_line(words, width, ending, k, rest),
-        _ => None,
+    #[tactic(auto, unfolding(crate::specs::Fit::after_model))]
+    fn after_model(&self) -> Option<Phase>
+        requires { Inside self.now }
+        ensures { result ≡ after_model (bytes_in self.now) }
+    {
+        if self.many == 1 && self.are_names() {
+            Some(Phase::Heading)
+        } else {
+            None
+        }
     }
-}
 
-// What may follow the line of rest + 1 words from word k on, if that fits.
-fn fit(words: &Words, phase: Phase, k: usize, rest: usize) -> Option<Phase>
-    requires { PlacesTo words.now (k + (rest + 1)) }
-    ensures { result ≡ fit phase (bytes_of words.now k (rest + 1)) }
-{
-    let key = keyword_of(words.word(k));
-    match phase {
-        Phase::Before => after_first(words, key, k + 1, rest),
-        Phase::Heading => after_heading(words, key, k + 1, rest),
-        Phase::Cover { width, ending } => after_cover(words, width, ending, key, k, rest),
-        Phase::Ended => None,
+    #[tactic(auto, unfolding(crate::specs::Fit::after_list))]
+    fn after_list(&self) -> Option<Phase>
+        requires { Inside self.now }
+        ensures { result ≡ after_list (bytes_in self.now) }
+    {
+        if self.are_names() {
+            Some(Phase::Heading)
+        } else {
+            None
+        }
+    }
+
+    #[tactic(auto, unfolding(crate::specs::Fit::after_gate))]
+    fn after_gate(&self) -> Option<Phase>
+        requires { Inside self.now }
+        ensures { result ≡ after_gate (bytes_in self.now) }
+    {
+        if 1 <= self.many && self.many <= MOST_NAMES && self.are_names() {
+            Some(Phase::Cover {
+                width: self.many - 1,
+                ending: None,
+            })
+        } else {
+            None
+        }
+    }
+
+    // A cover line.
+    fn after_line(&self, first: &[u8], width: usize, ending: Option<bool>) -> Option<Phase>
+        requires { Inside self.now }
+        ensures { result ≡ after_line width ending (first.now ∷ bytes_in self.now) }
+    {
+        match self.many {
+            0 if width == 0 => after_value(width, ending, value_of(first)),
+            1 if width != 0 && is_row(first, width) => after_value(
+                width,
+                ending,
+                value_of(self.words.word(self.from)),
+            ),
+            _ => None,
+        }
+    }
+
+    fn after_first(&self, key: Keyword) -> Option<Phase>
+        requires { Inside self.now }
+        ensures { result ≡ after_first key (bytes_in self.now) }
+    {
+        match key {
+            Keyword::Model => self.after_model(),
+            _ => None,
+        }
+    }
+
+    fn after_heading(&self, key: Keyword) -> Option<Phase>
+        requires { Inside self.now }
+        ensures { result ≡ after_heading key (bytes_in self.now) }
+    {
+        match key {
+            Keyword::Inputs | Keyword::Outputs => self.after_list(),
+            Keyword::Names => self.after_gate(),
+            Keyword::End => after_end(self.many),
+            _ => None,
+        }
+    }
+
+    // A line where a cover is open.
+    fn after_cover(
+        &self,
+        key: Keyword,
+        first: &[u8],
+        width: usize,
+        ending: Option<bool>,
+    ) -> Option<Phase>
+        requires { Inside self.now }
+        ensures { result ≡ after_cover width ending key first.now (bytes_in self.now) }
+    {
+        match key {
+            Keyword::Names => self.after_gate(),
+            Keyword::End => after_end(self.many),
+            Keyword::Other => self.after_line(first, width, ending),
+            _ => None,
+        }
+    }
+
+    // Any line, by its first word.
+    fn fit(&self, phase: Phase, first: &[u8]) -> Option<Phase>
+        requires { Inside self.now }
+        ensures { result ≡ fit phase (first.now ∷ bytes_in self.now) }
+    {
+        let key = keyword_of(first);
+        match phase {
+            Phase::Before => self.after_first(key),
+            Phase::Heading => self.after_heading(key),
+            Phase::Cover { width, ending } => self.after_cover(key, first, width, ending),
+            Phase::Ended => None,
+        }
     }
 }
 
@@ -329,7 +318,12 @@ pub fn fault(words: &Words, last: u32) -> Result<(), Refusal>
 {
     let mut phase = Phase::Before;
     for line in lines_from(words, 0) {
-        let Some(next) = fit(words, phase, line.first, line.rest) else {
+        let part = Part {
+            words: *words,
+            from: line.first + 1,
+            many: line.rest,
+        };
+        let Some(next) = part.fit(phase, words.word(line.first)) else {
             return Err(Refusal {
                 cause: Cause::TextLine,
                 place: words.line(line.first),

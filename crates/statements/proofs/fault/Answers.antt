@@ -1,6 +1,6 @@
 -- `statements::fault` meets its contract: what is left of the lines decides. Assumes nothing.
 use Prim.Native.Nat.{◌+◌, ◌-◌, ◌≤◌}
-use mathlib.Core.Path.{◌≡◌, ap, sym, ◌∙◌}
+use mathlib.Core.Path.{ap, sym, ◌∙◌}
 use native.Mathlib.Omega.{arith}
 use lib.ListN.{get_or}
 use Rattle.refusal.specs.Judgement.{refused}
@@ -30,7 +30,7 @@ returns-in_default c =
     let s = stepped l.invariant.2 c.in-Some.ensures.steps in
     let before = rw (sym s.here) at l.invariant.3 in
     ap (refused TextLine) c.line.ensures
-    ∙ sym (fault-here w.text.now w.starts.now w.lines.now w.count c.args.last l.phase _ _ s.inside s.words (sym c.in_default.is ∙ c.fit.ensures))
+    ∙ sym (fault-here w.text.now w.starts.now w.lines.now w.count c.args.last l.phase _ _ s.inside s.words _ c.word.ensures (sym c.in_default.is ∙ c.fit.ensures))
     ∙ before
 
 pub loop-line-preserved : goal.loop-line-preserved
@@ -42,7 +42,7 @@ loop-line-preserved c =
       rw (s.goes_on.count, s.goes_on.numbers) c.requires.1,
       tt,
       s.goes_on,
-      rw s.next (sym (fault-later w.text.now w.starts.now w.lines.now w.count c.args.last l.phase _ _ s.inside s.words c.in-Some-fit.next (sym c.in-Some-fit.is ∙ c.fit.ensures)) ∙ before),
+      rw s.next (sym (fault-later w.text.now w.starts.now w.lines.now w.count c.args.last l.phase _ _ s.inside s.words _ c.word.ensures c.in-Some-fit.next (sym c.in-Some-fit.is ∙ c.fit.ensures)) ∙ before),
     )
 
 pub returns-in-Ended : goal.returns-in-Ended

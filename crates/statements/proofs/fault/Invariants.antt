@@ -1,4 +1,3 @@
-use Prim.Native.Nat.{◌≤◌}
 use mathlib.Core.Path.{◌≡◌}
 use Rattle.statements.specs.declared.Phase.TheVariants.{Before}
 use Rattle.texts.specs.Words.{held}
