@@ -1,5 +1,5 @@
--- What the tests before have shown of tables, lent as words of a text, its names and the sources of its gates.
-use Rattle.std.specs.Prelude.{ℕ, List, ◌≡◌}
+-- What the tests before have shown of tables, lent as words of a text, its names and the sources of its gates: as many gates as `heads`, as many outputs as `outs`.
+use Rattle.std.specs.Prelude.{ℕ, List, ◌≡◌, length}
 use Rattle.names.specs.declared.Words.{Words}
 use Rattle.placing.specs.declared.Sources.{Sources}
 use Rattle.blif.specs.Resolved.{Resolved}
@@ -9,13 +9,13 @@ use Rattle.blif.specs.Stages.{Named, OutputsKnown}
 abbrev pub SameText : Words → Words → Type 0
 SameText names w = names.text.now ≡ w.text.now
 
-abbrev pub LentNamed : Words → Words → List ℕ → ℕ → ℕ → Type 0
-LentNamed names w heads inputs gates =
-    Named w.text.now w.starts.now w.lines.now w.count names.starts.now names.lines.now names.count heads inputs gates
+abbrev pub LentNamed : Words → Words → List ℕ → ℕ → Type 0
+LentNamed names w heads inputs =
+    Named w.text.now w.starts.now w.lines.now w.count names.starts.now names.lines.now names.count heads inputs (length heads)
 
-abbrev pub LentOutputs : Words → List ℕ → ℕ → ℕ → Type 0
-LentOutputs w outs inputs outputs = OutputsKnown w.text.now w.starts.now w.lines.now w.count outs inputs outputs
+abbrev pub LentOutputs : Words → List ℕ → ℕ → Type 0
+LentOutputs w outs inputs = OutputsKnown w.text.now w.starts.now w.lines.now w.count outs inputs (length outs)
 
-abbrev pub LentResolved : Words → Words → Sources → List ℕ → List ℕ → ℕ → ℕ → Type 0
-LentResolved names w s heads outs gates outputs =
-    Resolved w.text.now w.starts.now w.lines.now w.count heads s.pins.now s.counts.now outs names.lines.now s.inputs gates outputs
+abbrev pub LentResolved : Words → Words → Sources → List ℕ → List ℕ → Type 0
+LentResolved names w s heads outs =
+    Resolved w.text.now w.starts.now w.lines.now w.count heads s.pins.now s.counts.now outs names.lines.now s.inputs (length heads) (length outs)

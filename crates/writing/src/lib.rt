@@ -86,17 +86,16 @@ fn write_gates(
     heads: &[u16],
     place: &[u16; area::MOST_GATES],
     order: &[u16; area::MOST_GATES],
-    gates: usize,
     image: &mut [u8],
 )
     requires words { HeldWords words.now }
     requires placeable { LentGates sources place.now }
-    requires ordered { Ordered words.now.count heads.now order.now gates }
-    requires gates_in_bounds { record_bytes * gates ≤ length image.old }
+    requires ordered { Ordered words.now.count heads.now order.now (length heads.now) }
+    requires gates_in_bounds { record_bytes * length heads.now ≤ length image.old }
     ensures { image.new ≡ sets image.old 0 (joined (λ (q : ℕ).
-        lent_record words.now sources.entry heads.now place.now (get_or order.now q 0)) gates) }
+        lent_record words.now sources.entry heads.now place.now (get_or order.now q 0)) (length heads.now)) }
 {
-    for q in 0..gates {
+    for q in 0..heads.len() {
         let gate = names::entry(order, q);
         write_gate(
             words,
@@ -116,18 +115,17 @@ fn write_outputs(
     place: &[u16; area::MOST_GATES],
     inputs: usize,
     gates: usize,
-    outputs: usize,
     image: &mut [u8],
 )
     requires sourced { Sourced inputs place.now }
-    requires outputs_in_bounds { (outputs ≤ length outs.now) × ((i : ℕ) → get_or outs.now i 0 < inputs + most_gates)
-        × (gates ≤ most_gates) × (outputs ≤ most_outputs) }
-    requires outputs_in_bounds_2 { middle_bytes gates outputs ≤ length image.old }
+    requires outputs_in_bounds { ((i : ℕ) → get_or outs.now i 0 < inputs + most_gates)
+        × (gates ≤ most_gates) × (length outs.now ≤ most_outputs) }
+    requires outputs_in_bounds_2 { middle_bytes gates (length outs.now) ≤ length image.old }
     ensures { image.new ≡ sets image.old (record_bytes * gates)
-        (joined (output_in inputs place.now outs.now) outputs) }
+        (joined (output_in inputs place.now outs.now) (length outs.now)) }
 {
     let base = image::RECORD_BYTES * gates;
-    for k in 0..outputs {
+    for k in 0..outs.len() {
         let source = source_of(place, inputs, names::entry(outs, k));
         records::write_output(image, base + image::OUTPUT_BYTES * k, source);
     }
@@ -141,19 +139,19 @@ pub fn write_image(
     outs: &[u16],
     place: &[u16; area::MOST_GATES],
     order: &[u16; area::MOST_GATES],
-    gates: usize,
-    outputs: usize,
     image: &mut [u8],
 )
     requires words { HeldWords words.now }
     requires placeable { LentGates sources place.now }
-    requires ordered { Ordered words.now.count heads.now order.now gates }
-    requires outputs_in_bounds { (outputs ≤ length outs.now) × ((i : ℕ) → get_or outs.now i 0 < sources.inputs + most_gates) × (outputs ≤ most_outputs) }
-    requires outputs_in_bounds_2 { image_length gates outputs ≤ length image.old }
-    ensures { image.new ≡ sets image.old 0 (image_of (lent_net words.now sources.entry heads.now outs.now place.now order.now gates outputs)) }
+    requires ordered { Ordered words.now.count heads.now order.now (length heads.now) }
+    requires outputs_in_bounds { ((i : ℕ) → get_or outs.now i 0 < sources.inputs + most_gates) × (length outs.now ≤ most_outputs) }
+    requires outputs_in_bounds_2 { image_length (length heads.now) (length outs.now) ≤ length image.old }
+    ensures { image.new ≡ sets image.old 0 (image_of (lent_net words.now sources.entry heads.now outs.now place.now order.now)) }
 {
-    write_gates(words, sources, heads, place, order, gates, image);
-    write_outputs(outs, place, sources.inputs, gates, outputs, image);
+    let gates = heads.len();
+    let outputs = outs.len();
+    write_gates(words, sources, heads, place, order, image);
+    write_outputs(outs, place, sources.inputs, gates, image);
     let at = image::RECORD_BYTES * gates + image::OUTPUT_BYTES * outputs;
     records::write_trailer(image, at, sources.inputs, gates, outputs);
 }

@@ -11,7 +11,7 @@ use Rattle.blif.proofs.place_model.Goals as goal
 pub order_gates-requires : goal.order_gates-requires
 order_gates-requires c =
     let a = c.args in
-    let r = c.requires in record { gates_le_most_gates = (r.counted.few_gates, r.numbers_long, tables c.requires); by_index = r.gates_known; kept = none-placed (sources_of a.sources.pins.now a.sources.counts.now) a.sources.inputs a.gates }
+    let r = c.requires in record { gates_le_most_gates = (r.counted.few_gates, r.numbers_long, tables c.requires); by_index = r.gates_known; kept = none-placed (sources_of a.sources.pins.now a.sources.counts.now) a.sources.inputs (length a.heads.now) }
 
 pub write_fitting-requires : goal.write_fitting-requires
 write_fitting-requires c = record { resolved = c.requires; placed = c.order_gates.ensures.placed c.in_ok-order_gates.was }
