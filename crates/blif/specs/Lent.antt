@@ -1,7 +1,7 @@
 -- What the tests before have shown of tables, lent as words of a text, its names and the sources of its gates: as many gates as `heads`, as many outputs as `outs`.
 use Rattle.std.specs.Prelude.{ℕ, List, ◌≡◌, length}
 use Rattle.names.specs.declared.Words.{Words}
-use Rattle.placing.specs.declared.Sources.{Sources}
+use Rattle.writing.specs.declared.Model.{Model}
 use Rattle.blif.specs.Resolved.{Resolved}
 use Rattle.blif.specs.Stages.{Named, OutputsKnown}
 
@@ -16,6 +16,7 @@ LentNamed names w heads inputs =
 abbrev pub LentOutputs : Words → List ℕ → ℕ → Type 0
 LentOutputs w outs inputs = OutputsKnown w.text.now w.starts.now w.lines.now w.count outs inputs (length outs)
 
-abbrev pub LentResolved : Words → Words → Sources → List ℕ → List ℕ → Type 0
-LentResolved names w s heads outs =
-    Resolved w.text.now w.starts.now w.lines.now w.count heads s.pins.now s.counts.now outs names.lines.now s.inputs (length heads) (length outs)
+abbrev pub LentResolved : Words → Model → Type 0
+LentResolved names m =
+    Resolved m.words.now.text.now m.words.now.starts.now m.words.now.lines.now m.words.now.count m.heads.now
+    m.sources.pins.now m.sources.counts.now m.outs.now names.lines.now m.sources.inputs (length m.heads.now) (length m.outs.now)

@@ -15,28 +15,25 @@ use names::Words;
 use placing::Sources;
 use refusal::{Cause, Refusal};
 use statements::Keyword;
+use writing::{Model, Placement};
 
 // Refusal 20 of a model whose gates are placed; if it does not apply the image is written.
 fn write_fitting(
-    words: &Words,
+    model: &Model,
     names: &Words,
-    sources: Sources,
-    heads: &[u16],
-    outs: &[u16],
-    place: &[u16; area::MOST_GATES],
-    order: &[u16; area::MOST_GATES],
+    placement: &Placement,
     image: &mut [u8],
 ) -> Result<u32, Refusal>
-    requires resolved { LentResolved names.now words.now sources heads.now outs.now }
-    requires placed { Placed (lent_sources sources) sources.inputs (length heads.now) no_place (length heads.now) place.now order.now }
-    ensures value { result ≡ answer (room_fault (lines_in words.now 0) (length image.old))
-        (model_length (lines_in words.now 0)) }
+    requires resolved { LentResolved names.now model.now }
+    requires placed { Placed (lent_sources model.now.sources) model.now.sources.inputs (length model.now.heads.now) no_place (length model.now.heads.now) placement.now.place.now placement.now.order.now }
+    ensures value { result ≡ answer (room_fault (lines_in model.now.words.now 0) (length image.old))
+        (model_length (lines_in model.now.words.now 0)) }
     ensures image_after { image.new ≡ unless_refused
-        (room_fault (lines_in words.now 0) (length image.old))
-        (image_over (lines_in words.now 0) image.old) image.old }
+        (room_fault (lines_in model.now.words.now 0) (length image.old))
+        (image_over (lines_in model.now.words.now 0) image.old) image.old }
 {
-    let needed = image::RECORD_BYTES * heads.len()
-        + image::OUTPUT_BYTES * outs.len()
+    let needed = image::RECORD_BYTES * model.heads.len()
+        + image::OUTPUT_BYTES * model.outs.len()
         + image::TRAILER_BYTES;
     if image.len() < needed {
         return Err(Refusal {
@@ -44,30 +41,33 @@ fn write_fitting(
             place: 0,
         });
     }
-    writing::write_image(words, sources, heads, outs, place, order, image);
+    writing::write_image(model, placement, image);
     Ok(needed as u32)
 }
 
 // Refusal 19 for a loop, then 20, of a model whose names are all known.
-fn place_model(
-    words: &Words,
-    names: &Words,
-    sources: Sources,
-    heads: &[u16],
-    outs: &[u16],
-    image: &mut [u8],
-) -> Result<u32, Refusal>
-    requires { LentResolved names.now words.now sources heads.now outs.now }
-    ensures value { result ≡ answer (placed_refusal (lines_in words.now 0) (length image.old))
-        (model_length (lines_in words.now 0)) }
+fn place_model(model: &Model, names: &Words, image: &mut [u8]) -> Result<u32, Refusal>
+    requires { LentResolved names.now model.now }
+    ensures value { result ≡ answer (placed_refusal (lines_in model.now.words.now 0) (length image.old))
+        (model_length (lines_in model.now.words.now 0)) }
     ensures image_after { image.new ≡ unless_refused
-        (placed_refusal (lines_in words.now 0) (length image.old))
-        (image_over (lines_in words.now 0) image.old) image.old }
+        (placed_refusal (lines_in model.now.words.now 0) (length image.old))
+        (image_over (lines_in model.now.words.now 0) image.old) image.old }
 {
     let mut place = [0u16; area::MOST_GATES];
     let mut order = [0u16; area::MOST_GATES];
-    loops::order_gates(&mut place, &mut order, sources, heads.len(), names.lines)?;
-    write_fitting(words, names, sources, heads, outs, &place, &order, image)
+    loops::order_gates(
+        &mut place,
+        &mut order,
+        model.sources,
+        model.heads.len(),
+        names.lines,
+    )?;
+    let placement = Placement {
+        place: &place,
+        order: &order,
+    };
+    write_fitting(model, names, &placement, image)
 }
 
 // Undefined sources, then loops and 20. The outputs are known.
@@ -96,7 +96,13 @@ fn read_gates(
         pins: &pins,
         counts: &counts,
     };
-    place_model(words, names, sources, heads, outs, image)
+    let model = Model {
+        words,
+        sources,
+        heads,
+        outs,
+    };
+    place_model(&model, names, image)
 }
 
 // Undefined outputs, then undefined sources, loops and 20.

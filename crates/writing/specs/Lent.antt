@@ -2,6 +2,8 @@
 use Rattle.std.specs.Prelude.{ℕ, List, length}
 use Rattle.names.specs.declared.Words.{Words}
 use Rattle.placing.specs.declared.Sources.{Sources}
+use Rattle.writing.specs.declared.Model.{Model}
+use Rattle.writing.specs.declared.Placement.{Placement}
 use Rattle.netlist.specs.Netlist.{Netlist}
 use Rattle.writing.specs.Written as written
 use Rattle.writing.specs.Written.{Pinned, Placeable, record_in, held_net}
@@ -15,10 +17,13 @@ LentPins s place = Pinned s.inputs s.pins.now place
 abbrev pub LentGates : Sources → List ℕ → Type 0
 LentGates s place = Placeable s.inputs s.pins.now s.counts.now place
 
-abbrev pub lent_record : Words → Sources → List ℕ → List ℕ → ℕ → List ℕ
-lent_record w s heads place j = record_in w.text.now w.starts.now w.lines.now w.count heads s.pins.now s.counts.now s.inputs place j
+-- gate j's record, and the netlist of as many gates as there are heads and as many outputs as there are outs
+abbrev pub lent_record : Model → List ℕ → ℕ → List ℕ
+lent_record m place j =
+    record_in m.words.now.text.now m.words.now.starts.now m.words.now.lines.now m.words.now.count m.heads.now
+    m.sources.pins.now m.sources.counts.now m.sources.inputs place j
 
--- the netlist of as many gates as there are heads, and as many outputs as there are outs
-abbrev pub lent_net : Words → Sources → List ℕ → List ℕ → List ℕ → List ℕ → Netlist
-lent_net w s heads outs place order =
-    held_net w.text.now w.starts.now w.lines.now w.count heads s.pins.now s.counts.now outs place order s.inputs (length heads) (length outs)
+abbrev pub lent_net : Model → Placement → Netlist
+lent_net m p =
+    held_net m.words.now.text.now m.words.now.starts.now m.words.now.lines.now m.words.now.count m.heads.now
+    m.sources.pins.now m.sources.counts.now m.outs.now p.place.now p.order.now m.sources.inputs (length m.heads.now) (length m.outs.now)

@@ -15,6 +15,22 @@ ghost use Rattle.writing.specs.Lent.{HeldWords, LentPins, LentGates, lent_record
 use names::Words;
 use placing::Sources;
 
+// The model of a text whose names are all known: its words, the sources of its gates, the first word of each gate's line, and each output's definition.
+#[derive(Clone, Copy)]
+pub struct Model<'a> {
+    pub words: &'a Words<'a>,
+    pub sources: Sources<'a>,
+    pub heads: &'a [u16],
+    pub outs: &'a [u16],
+}
+
+// Where gates stand in the image, one past it and 0 for none, and which gate stands at each place.
+#[derive(Clone, Copy)]
+pub struct Placement<'a> {
+    pub place: &'a [u16; area::MOST_GATES],
+    pub order: &'a [u16; area::MOST_GATES],
+}
+
 // The source of the image that a definition becomes. Every gate is placed, so that no entry is 0.
 fn source_of(place: &[u16; area::MOST_GATES], inputs: usize, definition: usize) -> usize
     requires { Sourced inputs place.now × (definition < inputs + most_gates) }
@@ -52,60 +68,43 @@ fn pin(
 
 // The record of a gate of the text, at a place of the image.
 fn write_gate(
-    words: &Words,
-    sources: Sources,
-    heads: &[u16],
+    model: &Model,
     place: &[u16; area::MOST_GATES],
     gate: usize,
     image: &mut [u8],
     at: usize,
 )
-    requires words { HeldWords words.now }
-    requires placeable { LentGates sources place.now × (gate < most_gates) }
-    requires gate_in_bounds { (gate < length heads.now) × (get_or heads.now gate 0 < words.now.count) }
+    requires words { HeldWords model.now.words.now }
+    requires placeable { LentGates model.now.sources place.now × (gate < most_gates) }
+    requires gate_in_bounds { (gate < length model.now.heads.now) × (get_or model.now.heads.now gate 0 < model.now.words.now.count) }
     requires record_bytes_in_bounds { at + record_bytes ≤ length image.old }
-    ensures { image.new ≡ sets image.old at (lent_record words.now sources.entry heads.now place.now gate) }
+    ensures { image.new ≡ sets image.old at (lent_record model.now place.now gate) }
 {
-    let count = usize::from(sources.counts[gate]);
-    let head = names::entry(heads, gate);
-    let from = head + statements::line_rest(words, head) + 1;
-    let table = covers::table(words, from, count);
+    let count = usize::from(model.sources.counts[gate]);
+    let head = names::entry(model.heads, gate);
+    let from = head + statements::line_rest(model.words, head) + 1;
+    let table = covers::table(model.words, from, count);
     let pins = [
-        pin(place, sources, gate, count, 0),
-        pin(place, sources, gate, count, 1),
-        pin(place, sources, gate, count, 2),
-        pin(place, sources, gate, count, 3),
+        pin(place, model.sources, gate, count, 0),
+        pin(place, model.sources, gate, count, 1),
+        pin(place, model.sources, gate, count, 2),
+        pin(place, model.sources, gate, count, 3),
     ];
     records::write_record(image, at, count, 0, [0; 8], table, pins);
 }
 
 // The records of all gates, in the order of the image.
-fn write_gates(
-    words: &Words,
-    sources: Sources,
-    heads: &[u16],
-    place: &[u16; area::MOST_GATES],
-    order: &[u16; area::MOST_GATES],
-    image: &mut [u8],
-)
-    requires words { HeldWords words.now }
-    requires placeable { LentGates sources place.now }
-    requires ordered { Ordered words.now.count heads.now order.now (length heads.now) }
-    requires gates_in_bounds { record_bytes * length heads.now ≤ length image.old }
+fn write_gates(model: &Model, placement: &Placement, image: &mut [u8])
+    requires words { HeldWords model.now.words.now }
+    requires placeable { LentGates model.now.sources placement.now.place.now }
+    requires ordered { Ordered model.now.words.now.count model.now.heads.now placement.now.order.now (length model.now.heads.now) }
+    requires gates_in_bounds { record_bytes * length model.now.heads.now ≤ length image.old }
     ensures { image.new ≡ sets image.old 0 (joined (λ (q : ℕ).
-        lent_record words.now sources.entry heads.now place.now (get_or order.now q 0)) (length heads.now)) }
+        lent_record model.now placement.now.place.now (get_or placement.now.order.now q 0)) (length model.now.heads.now)) }
 {
-    for q in 0..heads.len() {
-        let gate = names::entry(order, q);
-        write_gate(
-            words,
-            sources,
-            heads,
-            place,
-            gate,
-            image,
-            image::RECORD_BYTES * q,
-        );
+    for q in 0..model.heads.len() {
+        let gate = usize::from(placement.order[q]);
+        write_gate(model, placement.place, gate, image, image::RECORD_BYTES * q);
     }
 }
 
@@ -132,26 +131,24 @@ fn write_outputs(
 }
 
 // The whole image, with an empty heading, over the first bytes of a slice that has room for it.
-pub fn write_image(
-    words: &Words,
-    sources: Sources,
-    heads: &[u16],
-    outs: &[u16],
-    place: &[u16; area::MOST_GATES],
-    order: &[u16; area::MOST_GATES],
-    image: &mut [u8],
-)
-    requires words { HeldWords words.now }
-    requires placeable { LentGates sources place.now }
-    requires ordered { Ordered words.now.count heads.now order.now (length heads.now) }
-    requires outputs_in_bounds { ((i : ℕ) → get_or outs.now i 0 < sources.inputs + most_gates) × (length outs.now ≤ most_outputs) }
-    requires outputs_in_bounds_2 { image_length (length heads.now) (length outs.now) ≤ length image.old }
-    ensures { image.new ≡ sets image.old 0 (image_of (lent_net words.now sources.entry heads.now outs.now place.now order.now)) }
+pub fn write_image(model: &Model, placement: &Placement, image: &mut [u8])
+    requires words { HeldWords model.now.words.now }
+    requires placeable { LentGates model.now.sources placement.now.place.now }
+    requires ordered { Ordered model.now.words.now.count model.now.heads.now placement.now.order.now (length model.now.heads.now) }
+    requires outputs_in_bounds { ((i : ℕ) → get_or model.now.outs.now i 0 < model.now.sources.inputs + most_gates) × (length model.now.outs.now ≤ most_outputs) }
+    requires outputs_in_bounds_2 { image_length (length model.now.heads.now) (length model.now.outs.now) ≤ length image.old }
+    ensures { image.new ≡ sets image.old 0 (image_of (lent_net model.now placement.now)) }
 {
-    let gates = heads.len();
-    let outputs = outs.len();
-    write_gates(words, sources, heads, place, order, image);
-    write_outputs(outs, place, sources.inputs, gates, image);
+    let gates = model.heads.len();
+    let outputs = model.outs.len();
+    write_gates(model, placement, image);
+    write_outputs(
+        model.outs,
+        placement.place,
+        model.sources.inputs,
+        gates,
+        image,
+    );
     let at = image::RECORD_BYTES * gates + image::OUTPUT_BYTES * outputs;
-    records::write_trailer(image, at, sources.inputs, gates, outputs);
+    records::write_trailer(image, at, model.sources.inputs, gates, outputs);
 }
