@@ -1,7 +1,11 @@
--- What the tests before have shown of tables, lent as words of a text, its names and the sources of its gates: as many gates as `heads`, as many outputs as `outs`.
+-- What the tests before have shown of tables, lent as words of a text, its names and its model in numbers.
+-- There are as many gates as `heads`, and as many outputs as `outs`.
 use Rattle.std.specs.Prelude.{ℕ, List, ◌≡◌, length}
 use Rattle.names.specs.declared.Words.{Words}
 use Rattle.writing.specs.declared.Model.{Model}
+use Rattle.writing.specs.declared.Placement.{Placement}
+use Rattle.placing.specs.Placing.{lent_sources, Placed}
+use Rattle.blif.specs.Reading.{no_place}
 use Rattle.blif.specs.Resolved.{Resolved}
 use Rattle.blif.specs.Stages.{Named, OutputsKnown}
 
@@ -20,3 +24,8 @@ abbrev pub LentResolved : Words → Model → Type 0
 LentResolved names m =
     Resolved m.words.now.text.now m.words.now.starts.now m.words.now.lines.now m.words.now.count m.heads.now
     m.sources.pins.now m.sources.counts.now m.outs.now names.lines.now m.sources.inputs (length m.heads.now) (length m.outs.now)
+
+-- all gates are placed, from no place on
+abbrev pub LentPlaced : Model → Placement → Type 0
+LentPlaced m p =
+    Placed (lent_sources m.sources) m.sources.inputs (length m.heads.now) no_place (length m.heads.now) p.place.now p.order.now

@@ -3,10 +3,9 @@
 
 ghost use Rattle.std.specs.Prelude.{◌≡◌, ◌+◌, ◌<◌, length};
 ghost use Rattle.refusal.specs.Judgement.{unless_refused, answer};
-ghost use Rattle.placing.specs.Placing.{lent_sources, Placed};
 ghost use Rattle.model.specs.Tables.{lines_in};
-ghost use Rattle.blif.specs.Reading.{no_place, text_lines, model_length, room_fault, lines_refusal, blif_refusal, image_over, blif_left};
-ghost use Rattle.blif.specs.Lent.{SameText, LentNamed, LentOutputs, LentResolved};
+ghost use Rattle.blif.specs.Reading.{text_lines, model_length, room_fault, lines_refusal, blif_refusal, image_over, blif_left};
+ghost use Rattle.blif.specs.Lent.{SameText, LentNamed, LentOutputs, LentResolved, LentPlaced};
 ghost use Rattle.blif.specs.Stages.{placed_refusal, gates_refusal, outputs_refusal, names_refusal, Within, Fitting};
 ghost use Rattle.model.specs.Counts.{earlier, some_fault, count_fault};
 ghost use Rattle.writing.specs.Lent.{HeldWords};
@@ -25,7 +24,7 @@ fn write_fitting(
     image: &mut [u8],
 ) -> Result<u32, Refusal>
     requires resolved { LentResolved names.now model.now }
-    requires placed { Placed (lent_sources model.now.sources) model.now.sources.inputs (length model.now.heads.now) no_place (length model.now.heads.now) placement.now.place.now placement.now.order.now }
+    requires placed { LentPlaced model.now placement.now }
     ensures value { result ≡ answer (room_fault (lines_in model.now.words.now 0) (length image.old))
         (model_length (lines_in model.now.words.now 0)) }
     ensures image_after { image.new ≡ unless_refused

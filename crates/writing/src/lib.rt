@@ -4,13 +4,13 @@
 ghost use Rattle.std.specs.Prelude.{◌≡◌, map, ℕ, ◌+◌, ◌*◌, ◌<◌, ◌≤◌, length, get_or};
 ghost use Rattle.std.proofs.lemmas.List.Edits.{sets};
 ghost use Rattle.lists.specs.Lists.{joined};
-ghost use Rattle.area.specs.Layout.{most_pins, most_gates, most_outputs};
+ghost use Rattle.area.specs.Layout.{most_pins, most_gates};
 ghost use Rattle.image.specs.Image.{record_bytes, middle_bytes, image_length};
 ghost use Rattle.placing.specs.Placing.{entries};
 ghost use Rattle.meaning.specs.Net.{source_of};
 ghost use Rattle.records.specs.Bytes.{image_of};
-ghost use Rattle.writing.specs.Written.{output_in, Sourced, Ordered};
-ghost use Rattle.writing.specs.Lent.{HeldWords, LentPins, LentGates, lent_record, lent_net};
+ghost use Rattle.writing.specs.Written.{output_in, Sourced};
+ghost use Rattle.writing.specs.Lent.{HeldWords, LentPins, LentGates, LentOrder, OutputsIn, lent_record, lent_net};
 
 use names::Words;
 use placing::Sources;
@@ -97,7 +97,7 @@ fn write_gate(
 fn write_gates(model: &Model, placement: &Placement, image: &mut [u8])
     requires words { HeldWords model.now.words.now }
     requires placeable { LentGates model.now.sources placement.now.place.now }
-    requires ordered { Ordered model.now.words.now.count model.now.heads.now placement.now.order.now (length model.now.heads.now) }
+    requires ordered { LentOrder model.now placement.now }
     requires gates_in_bounds { record_bytes * length model.now.heads.now ≤ length image.old }
     ensures { image.new ≡ sets image.old 0 (joined (λ (q : ℕ).
         lent_record model.now placement.now.place.now (get_or placement.now.order.now q 0)) (length model.now.heads.now)) }
@@ -109,23 +109,16 @@ fn write_gates(model: &Model, placement: &Placement, image: &mut [u8])
 }
 
 // The output words, after the records.
-fn write_outputs(
-    outs: &[u16],
-    place: &[u16; area::MOST_GATES],
-    inputs: usize,
-    gates: usize,
-    image: &mut [u8],
-)
-    requires sourced { Sourced inputs place.now }
-    requires outputs_in_bounds { ((i : ℕ) → get_or outs.now i 0 < inputs + most_gates)
-        × (gates ≤ most_gates) × (length outs.now ≤ most_outputs) }
-    requires outputs_in_bounds_2 { middle_bytes gates (length outs.now) ≤ length image.old }
-    ensures { image.new ≡ sets image.old (record_bytes * gates)
-        (joined (output_in inputs place.now outs.now) (length outs.now)) }
+fn write_outputs(model: &Model, place: &[u16; area::MOST_GATES], image: &mut [u8])
+    requires sourced { Sourced model.now.sources.inputs place.now }
+    requires outputs_in_bounds { OutputsIn model.now × (length model.now.heads.now ≤ most_gates) }
+    requires outputs_in_bounds_2 { middle_bytes (length model.now.heads.now) (length model.now.outs.now) ≤ length image.old }
+    ensures { image.new ≡ sets image.old (record_bytes * length model.now.heads.now)
+        (joined (output_in model.now.sources.inputs place.now model.now.outs.now) (length model.now.outs.now)) }
 {
-    let base = image::RECORD_BYTES * gates;
-    for k in 0..outs.len() {
-        let source = source_of(place, inputs, names::entry(outs, k));
+    let base = image::RECORD_BYTES * model.heads.len();
+    for k in 0..model.outs.len() {
+        let source = source_of(place, model.sources.inputs, names::entry(model.outs, k));
         records::write_output(image, base + image::OUTPUT_BYTES * k, source);
     }
 }
@@ -134,21 +127,15 @@ fn write_outputs(
 pub fn write_image(model: &Model, placement: &Placement, image: &mut [u8])
     requires words { HeldWords model.now.words.now }
     requires placeable { LentGates model.now.sources placement.now.place.now }
-    requires ordered { Ordered model.now.words.now.count model.now.heads.now placement.now.order.now (length model.now.heads.now) }
-    requires outputs_in_bounds { ((i : ℕ) → get_or model.now.outs.now i 0 < model.now.sources.inputs + most_gates) × (length model.now.outs.now ≤ most_outputs) }
+    requires ordered { LentOrder model.now placement.now }
+    requires outputs_in_bounds { OutputsIn model.now }
     requires outputs_in_bounds_2 { image_length (length model.now.heads.now) (length model.now.outs.now) ≤ length image.old }
     ensures { image.new ≡ sets image.old 0 (image_of (lent_net model.now placement.now)) }
 {
     let gates = model.heads.len();
     let outputs = model.outs.len();
     write_gates(model, placement, image);
-    write_outputs(
-        model.outs,
-        placement.place,
-        model.sources.inputs,
-        gates,
-        image,
-    );
+    write_outputs(model, placement.place, image);
     let at = image::RECORD_BYTES * gates + image::OUTPUT_BYTES * outputs;
     records::write_trailer(image, at, model.sources.inputs, gates, outputs);
 }
