@@ -4,7 +4,8 @@ use mathlib.Core.Path.{◌≡◌, ap, sym, ◌∙◌}
 use mathlib.Core.List.{List, ◌++◌}
 use native.Mathlib.Nat.{zero-add}
 use native.Mathlib.Omega.{arith}
-use lib.ListN.{length, get_or, replicate}
+use lib.ListN.{length, get_or, replicate, take}
+use lib.Seq.{get_or-take, length-take-le}
 use Rattle.texts.specs.Words.{Word, held}
 use Rattle.statements.specs.Lines.{Places}
 use Rattle.statements.proofs.Lines.{length-bytes}
@@ -50,7 +51,7 @@ module _ {t s l : List ℕ} {n : ℕ} (words : Words t s l n) (within : Within (
     pub numbers_long : many ≤ length numbers
     numbers_long = rw (c₂.wide, c₁.wide) few-names
 
-    pub named : {heads : List ℕ} {gates : ℕ} → gates ≡ gate_count (lines_from t s l n 0) → Heads t s l n heads gates → gates ≤ length heads
+    named : {heads : List ℕ} {gates : ℕ} → gates ≡ gate_count (lines_from t s l n 0) → Heads t s l n heads gates → gates ≤ length heads
         → Named t s l n names numbers many heads inputs gates
     named {heads} {gates} e h long =
         record {
@@ -77,3 +78,15 @@ module _ {t s l : List ℕ} {n : ℕ} (words : Words t s l n) (within : Within (
             let some = fitting.some j (rw (← e) low) in
             let few = fitting.few j (rw (← e) low) in
             (omega (arith, some, width j low), omega (arith, few, width j low))
+
+    -- the same with the table of gates cut to their count
+    pub named-cut : {heads : List ℕ} {gates : ℕ} → gates ≡ gate_count (lines_from t s l n 0) → Heads t s l n heads gates → gates ≤ length heads
+        → Named t s l n names numbers many (take gates heads) inputs (length (take gates heads))
+    named-cut {heads} {gates} e h long =
+        rw (length-take-le gates heads long)
+        (named e
+        (record {
+          inside = λ j low. rw (get_or-take gates heads j 0 low) (h.inside j low);
+          each = λ j low. rw (get_or-take gates heads j 0 low) (h.each j low);
+        })
+        (omega (arith, length-take-le gates heads long)))

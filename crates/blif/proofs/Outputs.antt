@@ -1,13 +1,17 @@
 -- The outputs of a text, as numbers of definitions. Assumes nothing.
-use Prim.Native.Nat.{ℕ, ◌+◌, ◌≤◌}
-use mathlib.Core.Path.{◌≡◌, ap₂, ◌∙◌}
-use mathlib.Core.List.{List, map}
+use Prim.Native.Nat.{ℕ, zero, suc, ◌+◌, ◌≤◌}
+use mathlib.Core.Path.{◌≡◌, refl, ap₂, ◌∙◌}
+use mathlib.Core.List.{List, ◌∷◌, map}
+use mathlib.Core.Logic.{by_cases}
+use native.Mathlib.Decide.{dec_lt}
 use native.Mathlib.Nat.{zero-add}
 use native.Mathlib.Omega.{arith}
-use lib.ListN.{length, replicate}
+use lib.ListN.{length, get_or-eq_default, replicate, take}
+use lib.Seq.{get_or-take, length-take-le}
 use Rattle.lists.proofs.Parts.{zeros-at}
 use Rattle.texts.specs.Words.{Word, held}
 use Rattle.statements.specs.Lines.{Places}
+use Rattle.placing.specs.Placing.{entries}
 use Rattle.model.specs.Model.{outputs_key, listed, defined, number}
 use Rattle.model.specs.Tables.{lines_from, Collected}
 use Rattle.resolve.specs.Names.{unknown_fault}
@@ -52,3 +56,23 @@ module _ {t s l : List ℕ} {n : ℕ} {names numbers : List ℕ} {many : ℕ} {h
         outs_known = found.below (inputs + 1024) (omega (arith, d.many_are, d.gates_are, d.within.few_gates)) (λ i. rw (zeros-at 64 i) (omega arith));
         outs_long = rw found.kept.long uses-few;
       }
+
+-- the same outputs in a table cut to their count
+entries-cut : (k : ℕ) (outs : List ℕ) (i m : ℕ) → i + m ≤ k → entries (take k outs) i m ≡ entries outs i m
+entries-cut k outs i zero h = refl
+entries-cut k outs i (suc m) h = ap₂ ◌∷◌ (get_or-take k outs i 0 (omega (arith, h))) (entries-cut k outs (suc i) m (omega (arith, h)))
+
+pub cut_outputs : {t s l : List ℕ} {n : ℕ} {outs : List ℕ} {inputs k : ℕ} → OutputsKnown t s l n outs inputs k
+    → OutputsKnown t s l n (take k outs) inputs (length (take k outs))
+cut_outputs {outs = outs} {inputs = inputs} {k = k} o =
+    rw (length-take-le k outs o.outs_long)
+    (record {
+      outputs_are = o.outputs_are;
+      outs_are = entries-cut k outs 0 k (omega arith) ∙ o.outs_are;
+      outs_known = λ i. by_cases (dec_lt i k)
+          (λ low. rw (get_or-take k outs i 0 low) (o.outs_known i))
+          (λ past.
+          let short : length (take k outs) ≤ i = omega (arith, length-take-le k outs o.outs_long, past) in
+          rw (get_or-eq_default (take k outs) 0 short) (omega arith));
+      outs_long = omega (arith, length-take-le k outs o.outs_long);
+    })

@@ -1,7 +1,11 @@
--- What the tests before have shown of tables, lent as words of a text, its names and the sources of its gates.
-use Rattle.std.specs.Prelude.{ℕ, List, ◌≡◌}
+-- What the tests before have shown of tables, lent as words of a text, its names and its model in numbers.
+-- There are as many gates as `heads`, and as many outputs as `outs`.
+use Rattle.std.specs.Prelude.{ℕ, List, ◌≡◌, length}
 use Rattle.names.specs.declared.Words.{Words}
-use Rattle.placing.specs.declared.Sources.{Sources}
+use Rattle.writing.specs.declared.Model.{Model}
+use Rattle.writing.specs.declared.Placement.{Placement}
+use Rattle.placing.specs.Placing.{lent_sources, Placed}
+use Rattle.blif.specs.Reading.{no_place}
 use Rattle.blif.specs.Resolved.{Resolved}
 use Rattle.blif.specs.Stages.{Named, OutputsKnown}
 
@@ -9,13 +13,19 @@ use Rattle.blif.specs.Stages.{Named, OutputsKnown}
 abbrev pub SameText : Words → Words → Type 0
 SameText names w = names.text.now ≡ w.text.now
 
-abbrev pub LentNamed : Words → Words → List ℕ → ℕ → ℕ → Type 0
-LentNamed names w heads inputs gates =
-    Named w.text.now w.starts.now w.lines.now w.count names.starts.now names.lines.now names.count heads inputs gates
+abbrev pub LentNamed : Words → Words → List ℕ → ℕ → Type 0
+LentNamed names w heads inputs =
+    Named w.text.now w.starts.now w.lines.now w.count names.starts.now names.lines.now names.count heads inputs (length heads)
 
-abbrev pub LentOutputs : Words → List ℕ → ℕ → ℕ → Type 0
-LentOutputs w outs inputs outputs = OutputsKnown w.text.now w.starts.now w.lines.now w.count outs inputs outputs
+abbrev pub LentOutputs : Words → List ℕ → ℕ → Type 0
+LentOutputs w outs inputs = OutputsKnown w.text.now w.starts.now w.lines.now w.count outs inputs (length outs)
 
-abbrev pub LentResolved : Words → Words → Sources → List ℕ → List ℕ → ℕ → ℕ → Type 0
-LentResolved names w s heads outs gates outputs =
-    Resolved w.text.now w.starts.now w.lines.now w.count heads s.pins.now s.counts.now outs names.lines.now s.inputs gates outputs
+abbrev pub LentResolved : Words → Model → Type 0
+LentResolved names m =
+    Resolved m.words.now.text.now m.words.now.starts.now m.words.now.lines.now m.words.now.count m.heads.now
+    m.sources.pins.now m.sources.counts.now m.outs.now names.lines.now m.sources.inputs (length m.heads.now) (length m.outs.now)
+
+-- all gates are placed, from no place on
+abbrev pub LentPlaced : Model → Placement → Type 0
+LentPlaced m p =
+    Placed (lent_sources m.sources) m.sources.inputs (length m.heads.now) no_place (length m.heads.now) p.place.now p.order.now

@@ -3,10 +3,9 @@
 
 ghost use Rattle.std.specs.Prelude.{◌≡◌, ◌+◌, ◌<◌, length};
 ghost use Rattle.refusal.specs.Judgement.{unless_refused, answer};
-ghost use Rattle.placing.specs.Placing.{lent_sources, Placed};
 ghost use Rattle.model.specs.Tables.{lines_in};
-ghost use Rattle.blif.specs.Reading.{no_place, text_lines, model_length, room_fault, lines_refusal, blif_refusal, image_over, blif_left};
-ghost use Rattle.blif.specs.Lent.{SameText, LentNamed, LentOutputs, LentResolved};
+ghost use Rattle.blif.specs.Reading.{text_lines, model_length, room_fault, lines_refusal, blif_refusal, image_over, blif_left};
+ghost use Rattle.blif.specs.Lent.{SameText, LentNamed, LentOutputs, LentResolved, LentPlaced};
 ghost use Rattle.blif.specs.Stages.{placed_refusal, gates_refusal, outputs_refusal, names_refusal, Within, Fitting};
 ghost use Rattle.model.specs.Counts.{earlier, some_fault, count_fault};
 ghost use Rattle.writing.specs.Lent.{HeldWords};
@@ -15,65 +14,59 @@ use names::Words;
 use placing::Sources;
 use refusal::{Cause, Refusal};
 use statements::Keyword;
+use writing::{Model, Placement};
 
 // Refusal 20 of a model whose gates are placed; if it does not apply the image is written.
 fn write_fitting(
-    words: &Words,
+    model: &Model,
     names: &Words,
-    sources: Sources,
-    heads: &[u16],
-    outs: &[u16],
-    place: &[u16; area::MOST_GATES],
-    order: &[u16; area::MOST_GATES],
-    gates: usize,
-    outputs: usize,
+    placement: &Placement,
     image: &mut [u8],
 ) -> Result<u32, Refusal>
-    requires resolved { LentResolved names.now words.now sources heads.now outs.now gates outputs }
-    requires placed { Placed (lent_sources sources) sources.inputs gates no_place gates place.now order.now }
-    ensures value { result ≡ answer (room_fault (lines_in words.now 0) (length image.old))
-        (model_length (lines_in words.now 0)) }
+    requires resolved { LentResolved names.now model.now }
+    requires placed { LentPlaced model.now placement.now }
+    ensures value { result ≡ answer (room_fault (lines_in model.now.words.now 0) (length image.old))
+        (model_length (lines_in model.now.words.now 0)) }
     ensures image_after { image.new ≡ unless_refused
-        (room_fault (lines_in words.now 0) (length image.old))
-        (image_over (lines_in words.now 0) image.old) image.old }
+        (room_fault (lines_in model.now.words.now 0) (length image.old))
+        (image_over (lines_in model.now.words.now 0) image.old) image.old }
 {
-    let needed = image::RECORD_BYTES * gates + image::OUTPUT_BYTES * outputs + image::TRAILER_BYTES;
+    let needed = image::RECORD_BYTES * model.heads.len()
+        + image::OUTPUT_BYTES * model.outs.len()
+        + image::TRAILER_BYTES;
     if image.len() < needed {
         return Err(Refusal {
             cause: Cause::ImageSlice,
             place: 0,
         });
     }
-    writing::write_image(
-        words, sources, heads, outs, place, order, gates, outputs, image,
-    );
+    writing::write_image(model, placement, image);
     Ok(needed as u32)
 }
 
 // Refusal 19 for a loop, then 20, of a model whose names are all known.
-fn place_model(
-    words: &Words,
-    names: &Words,
-    sources: Sources,
-    heads: &[u16],
-    outs: &[u16],
-    gates: usize,
-    outputs: usize,
-    image: &mut [u8],
-) -> Result<u32, Refusal>
-    requires { LentResolved names.now words.now sources heads.now outs.now gates outputs }
-    ensures value { result ≡ answer (placed_refusal (lines_in words.now 0) (length image.old))
-        (model_length (lines_in words.now 0)) }
+fn place_model(model: &Model, names: &Words, image: &mut [u8]) -> Result<u32, Refusal>
+    requires { LentResolved names.now model.now }
+    ensures value { result ≡ answer (placed_refusal (lines_in model.now.words.now 0) (length image.old))
+        (model_length (lines_in model.now.words.now 0)) }
     ensures image_after { image.new ≡ unless_refused
-        (placed_refusal (lines_in words.now 0) (length image.old))
-        (image_over (lines_in words.now 0) image.old) image.old }
+        (placed_refusal (lines_in model.now.words.now 0) (length image.old))
+        (image_over (lines_in model.now.words.now 0) image.old) image.old }
 {
     let mut place = [0u16; area::MOST_GATES];
     let mut order = [0u16; area::MOST_GATES];
-    loops::order_gates(&mut place, &mut order, sources, gates, names.lines)?;
-    write_fitting(
-        words, names, sources, heads, outs, &place, &order, gates, outputs, image,
-    )
+    loops::order_gates(
+        &mut place,
+        &mut order,
+        model.sources,
+        model.heads.len(),
+        names.lines,
+    )?;
+    let placement = Placement {
+        place: &place,
+        order: &order,
+    };
+    write_fitting(model, names, &placement, image)
 }
 
 // Undefined sources, then loops and 20. The outputs are known.
@@ -83,13 +76,11 @@ fn read_gates(
     heads: &[u16],
     outs: &[u16],
     inputs: usize,
-    gates: usize,
-    outputs: usize,
     image: &mut [u8],
 ) -> Result<u32, Refusal>
     requires same_text { SameText names.now words.now }
-    requires named { LentNamed names.now words.now heads.now inputs gates }
-    requires outputs_known { LentOutputs words.now outs.now inputs outputs }
+    requires named { LentNamed names.now words.now heads.now inputs }
+    requires outputs_known { LentOutputs words.now outs.now inputs }
     ensures value { result ≡ answer (gates_refusal (lines_in words.now 0) (length image.old))
         (model_length (lines_in words.now 0)) }
     ensures image_after { image.new ≡ unless_refused
@@ -98,13 +89,19 @@ fn read_gates(
 {
     let mut pins = [0u16; placing::PIN_ENTRIES];
     let mut counts = [0u16; area::MOST_GATES];
-    resolve::resolve_gates(names, words, heads, gates, &mut pins, &mut counts)?;
+    resolve::resolve_gates(names, words, heads, &mut pins, &mut counts)?;
     let sources = Sources {
         inputs,
         pins: &pins,
         counts: &counts,
     };
-    place_model(words, names, sources, heads, outs, gates, outputs, image)
+    let model = Model {
+        words,
+        sources,
+        heads,
+        outs,
+    };
+    place_model(&model, names, image)
 }
 
 // Undefined outputs, then undefined sources, loops and 20.
@@ -113,11 +110,10 @@ fn read_outputs(
     names: &Words,
     heads: &[u16],
     inputs: usize,
-    gates: usize,
     image: &mut [u8],
 ) -> Result<u32, Refusal>
     requires same_text { SameText names.now words.now }
-    requires named { LentNamed names.now words.now heads.now inputs gates }
+    requires named { LentNamed names.now words.now heads.now inputs }
     ensures value { result ≡ answer (outputs_refusal (lines_in words.now 0) (length image.old))
         (model_length (lines_in words.now 0)) }
     ensures image_after { image.new ≡ unless_refused
@@ -135,7 +131,7 @@ fn read_outputs(
     };
     let mut outs = [0u16; area::MOST_OUTPUTS];
     resolve::resolve(names, &used, 0, outputs, &mut outs, 0)?;
-    read_gates(words, names, heads, &outs, inputs, gates, outputs, image)
+    read_gates(words, names, heads, &outs[..outputs], inputs, image)
 }
 
 // Names defined twice, then undefined names, loops and 20, of a text whose counts are right.
@@ -161,7 +157,7 @@ fn read_names(words: &Words, image: &mut [u8]) -> Result<u32, Refusal>
     let mut heads = [0u16; area::MOST_GATES];
     let gates = model::heads(words, &mut heads);
     resolve::judge_again(&names)?;
-    read_outputs(words, &names, &heads, inputs, gates, image)
+    read_outputs(words, &names, &heads[..gates], inputs, image)
 }
 
 // Of two refusals the one at the lower line.

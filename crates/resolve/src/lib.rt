@@ -96,25 +96,24 @@ fn resolve_gate(
     resolve(names, words, head + 1, count, pins, area::MOST_PINS * gate)
 }
 
-// The sources of each gate in turn, four entries a gate.
+// The sources of each gate in turn, four entries a gate. Its line begins with the word that `heads` gives it.
 pub fn resolve_gates(
     names: &Words,
     words: &Words,
     heads: &[u16],
-    gates: usize,
     pins: &mut [u16],
     counts: &mut [u16],
 ) -> Result<(), Refusal>
     requires defined { Defined names.now words.now }
     requires lent { Lent words.now }
-    requires gates_le_most_gates { (gates ≤ most_gates) × (gates ≤ length heads.now) × Headed words.now.lines.now words.now.count heads.now gates }
+    requires gates_le_most_gates { (length heads.now ≤ most_gates) × Headed words.now.lines.now words.now.count heads.now (length heads.now) }
     requires room { Room pins.old counts.old × Clear pins.old counts.old }
     ensures by_index { (ls : List ℕ) → result ≡ lowest (λ (j : ℕ). unknown_fault (held words.now.text.now names.now.starts.now ls 0 names.now.count)
-        (sources (gate_from words.now.text.now words.now.starts.now words.now.lines.now words.now.count (get_or heads.now j 0)))) gates }
+        (sources (gate_from words.now.text.now words.now.starts.now words.now.lines.now words.now.count (get_or heads.now j 0)))) (length heads.now) }
     ensures sources { result ≡ Fine → (ls : List ℕ) → Sources (held words.now.text.now names.now.starts.now ls 0 names.now.count)
-        words.now.text.now words.now.starts.now words.now.lines.now words.now.count heads.now pins.new counts.new gates }
+        words.now.text.now words.now.starts.now words.now.lines.now words.now.count heads.now pins.new counts.new (length heads.now) }
 {
-    for j in 0..gates {
+    for j in 0..heads.len() {
         resolve_gate(names, words, names::entry(heads, j), j, pins, counts)?;
     }
     Ok(())

@@ -13,7 +13,7 @@ use Rattle.blif.proofs.read_gates.Goals as goal
 pub resolve_gates-requires : goal.resolve_gates-requires
 resolve_gates-requires c =
     let d = c.requires.named in
-    let few : c.args.gates ≤ 1024 = rw d.gates_are d.within.few_gates in record { defined = record { same_text = c.requires.same_text; places = d.names_in; few = omega (arith, d.many_are, few, d.inputs_are, d.within.few_inputs) }; lent = (d.words.places, d.words.numbered); gates_le_most_gates = (few, d.heads_long, d.fitting); room = (roomy, cleared) }
+    let few : length c.args.heads.now ≤ 1024 = rw d.gates_are d.within.few_gates in record { defined = record { same_text = c.requires.same_text; places = d.names_in; few = omega (arith, d.many_are, few, d.inputs_are, d.within.few_inputs) }; lent = (d.words.places, d.words.numbered); gates_le_most_gates = (few, d.fitting); room = (roomy, cleared) }
 
 pub place_model-requires : goal.place_model-requires
 place_model-requires c =

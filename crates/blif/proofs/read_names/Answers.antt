@@ -1,7 +1,7 @@
 -- `blif::read_names` meets its contract. Assumes nothing.
 use mathlib.Core.Path.{refl}
 use native.Mathlib.Omega.{arith}
-use Rattle.blif.proofs.Defined.{gates-room, same-room, names_in, numbers_long, named}
+use Rattle.blif.proofs.Defined.{gates-room, same-room, names_in, numbers_long, named-cut}
 use Rattle.blif.proofs.read_names.Goals as goal
 
 pub collect-many-requires : goal.collect-many-requires
@@ -21,4 +21,4 @@ read_outputs-requires c =
     let at-collect2 = c.collect-many in
     let at-collect = c.collect-inputs in
     let h = at-heads2.ensures in
-    record { same_text = refl; named = named c.requires.words c.requires.within.0 c.requires.within.1 at-collect.ensures at-collect2.ensures h.value h.heads (omega (arith, h.value, h.heads_len_unchanged, c.requires.within.0.few_gates)) }
+    record { same_text = refl; named = named-cut c.requires.words c.requires.within.0 c.requires.within.1 at-collect.ensures at-collect2.ensures h.value h.heads (omega (arith, h.value, h.heads_len_unchanged, c.requires.within.0.few_gates)) }

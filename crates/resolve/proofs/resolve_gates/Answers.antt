@@ -17,7 +17,7 @@ loop-j-preserved c =
     let at-loop-test = c.loop-j-test in
     let l = c.loop-j in
     let a = c.args in
-    let headed = c.requires.gates_le_most_gates.2 in
+    let headed = c.requires.gates_le_most_gates.1 in
     let told = c.in_ok-resolve_gate.was in
     let e = rw c.entry.ensures at c.resolve_gate.ensures in (
       turn a.words.now.text.now a.names.now.starts.now a.names.now.count a.words.now.starts.now a.words.now.lines.now a.words.now.count a.heads.now l.pins l.counts l.j l.invariant.0
@@ -37,10 +37,10 @@ returns-in_err-resolve_gate-clause-by_index c =
     let p = err_from_is_err_and c.from_residual.result c.from_residual.ensures.1 in rw (p.1, p.2)
     (λ ls. lowest-answer (λ (j : ℕ). unknown_fault (held w.text.now names.starts.now ls 0 names.count)
     (sources (gate_from w.text.now w.starts.now w.lines.now w.count (get_or c.args.heads.now j 0))))
-    c.args.gates l.j _ _ c.loop-j-test.true (l.invariant.0.fine ls) (sym (e ls) ∙ told))
+    (length c.args.heads.now) l.j _ _ c.loop-j-test.true (l.invariant.0.fine ls) (sym (e ls) ∙ told))
 
 pub returns : goal.returns
 returns c =
     let l = c.loop-j in
     let a = c.args in
-    let end : l.j ≡ a.gates = omega arith in record { by_index = λ ls. sym (rw end at (l.invariant.0.fine ls)); sources = λ _ ls. rw end at (l.invariant.0.so_far ls) }
+    let end : l.j ≡ length a.heads.now = omega arith in record { by_index = λ ls. sym (rw end at (l.invariant.0.fine ls)); sources = λ _ ls. rw end at (l.invariant.0.so_far ls) }

@@ -23,23 +23,23 @@ pub overflow_add-from : goal.overflow_add-from
 overflow_add-from c =
     let a = c.args in
     let e = c.entry-head in
-    let low : c.entry-head.result < a.words.now.count = rw e.ensures c.requires.gate_in_bounds.1 in
-    omega (arith, c.requires.words.few, shorter a.words.now.text.now a.words.now.starts.now a.words.now.lines.now a.words.now.count e.result c.line_rest.result low c.line_rest.ensures)
+    let low : c.entry-head.result < a.model.now.words.now.count = rw e.ensures c.requires.gate_in_bounds.1 in
+    omega (arith, c.requires.words.few, shorter a.model.now.words.now.text.now a.model.now.words.now.starts.now a.model.now.words.now.lines.now a.model.now.words.now.count e.result c.line_rest.result low c.line_rest.ensures)
 
 pub overflow_add-from-2 : goal.overflow_add-from-2
 overflow_add-from-2 c =
     let a = c.args in
     let e = c.entry-head in
-    let low : c.entry-head.result < a.words.now.count = rw e.ensures c.requires.gate_in_bounds.1 in
-    omega (arith, c.requires.words.few, shorter a.words.now.text.now a.words.now.starts.now a.words.now.lines.now a.words.now.count e.result c.line_rest.result low c.line_rest.ensures)
+    let low : c.entry-head.result < a.model.now.words.now.count = rw e.ensures c.requires.gate_in_bounds.1 in
+    omega (arith, c.requires.words.few, shorter a.model.now.words.now.text.now a.model.now.words.now.starts.now a.model.now.words.now.lines.now a.model.now.words.now.count e.result c.line_rest.result low c.line_rest.ensures)
 
 pub table-table-requires : goal.table-table-requires
 table-table-requires c =
     let a = c.args in
     let e = c.entry-head in
-    let low : c.entry-head.result < a.words.now.count = rw e.ensures c.requires.gate_in_bounds.1 in (
+    let low : c.entry-head.result < a.model.now.words.now.count = rw e.ensures c.requires.gate_in_bounds.1 in (
       (c.requires.words.places, c.requires.words.numbered, c.requires.words.few),
-      omega (arith, shorter a.words.now.text.now a.words.now.starts.now a.words.now.lines.now a.words.now.count e.result c.line_rest.result low c.line_rest.ensures),
+      omega (arith, shorter a.model.now.words.now.text.now a.model.now.words.now.starts.now a.model.now.words.now.lines.now a.model.now.words.now.count e.result c.line_rest.result low c.line_rest.ensures),
       rw c.from-count.ensures (c.requires.placeable.0.counted _),
     )
 
@@ -71,17 +71,17 @@ returns c =
     let counted = c.from-count in
     let line = c.line_rest in
     let last = c.table-table in
-    let h = get_or a.heads.now a.gate 0 in
-    let rest : line.result ≡ rest_at a.words.now.lines.now a.words.now.count (get_or a.heads.now a.gate 0) =
-    line.ensures ∙ ap (rest_at a.words.now.lines.now a.words.now.count) head.ensures in
+    let h = get_or a.model.now.heads.now a.gate 0 in
+    let rest : line.result ≡ rest_at a.model.now.words.now.lines.now a.model.now.words.now.count (get_or a.model.now.heads.now a.gate 0) =
+    line.ensures ∙ ap (rest_at a.model.now.words.now.lines.now a.model.now.words.now.count) head.ensures in
     let past : head.result + line.result + 1
-    ≡ get_or a.heads.now a.gate 0 + (rest_at a.words.now.lines.now a.words.now.count (get_or a.heads.now a.gate 0) + 1) = omega (arith, rest, head.ensures) in
+    ≡ get_or a.model.now.heads.now a.gate 0 + (rest_at a.model.now.words.now.lines.now a.model.now.words.now.count (get_or a.model.now.heads.now a.gate 0) + 1) = omega (arith, rest, head.ensures) in
     let table = last.ensures.value
-    ∙ ap₂ (λ (m k : ℕ). cover_table m (cover_of (lines_from a.words.now.text.now a.words.now.starts.now a.words.now.lines.now a.words.now.count k))) counted.ensures past in
-    let source = source_of a.sources.inputs a.place.now in
-    let many = get_or a.sources.counts.now a.gate 0 in
-    let ps = map source (entries a.sources.pins.now (most_pins * a.gate) many) in
-    let count = counted.ensures ∙ sym (mapped-length source a.sources.pins.now (most_pins * a.gate) many) in
+    ∙ ap₂ (λ (m k : ℕ). cover_table m (cover_of (lines_from a.model.now.words.now.text.now a.model.now.words.now.starts.now a.model.now.words.now.lines.now a.model.now.words.now.count k))) counted.ensures past in
+    let source = source_of a.model.now.sources.inputs a.place.now in
+    let many = get_or a.model.now.sources.counts.now a.gate 0 in
+    let ps = map source (entries a.model.now.sources.pins.now (most_pins * a.gate) many) in
+    let count = counted.ensures ∙ sym (mapped-length source a.model.now.sources.pins.now (most_pins * a.gate) many) in
     c.write_record.ensures
     ∙ ap (sets a.image.now a.at)
     (by-pins ps counted.result last.result at_pin.result at-pin2.result at-pin3.result at-pin4.result count

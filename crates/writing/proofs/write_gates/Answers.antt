@@ -15,9 +15,9 @@ pub loop-q-preserved : goal.loop-q-preserved
 loop-q-preserved c =
     let l = c.loop-q in
     let a = c.args in
-    let record_of : ℕ → List ℕ = λ q. record_in a.words.now.text.now a.words.now.starts.now a.words.now.lines.now a.words.now.count a.heads.now a.sources.pins.now a.sources.counts.now
-    a.sources.inputs a.place.now (get_or a.order.now q 0) in
+    let record_of : ℕ → List ℕ = λ q. record_in a.model.now.words.now.text.now a.model.now.words.now.starts.now a.model.now.words.now.lines.now a.model.now.words.now.count a.model.now.heads.now a.model.now.sources.pins.now a.model.now.sources.counts.now
+    a.model.now.sources.inputs a.placement.now.place.now (get_or a.placement.now.order.now q 0) in
     let new = joined-turn record_of a.image.now l.image _ 0 l.q (record_bytes * l.q)
     (omega (arith, length-joined record_of record_bytes (λ i. refl) l.q)) l.invariant.1
-    (rw c.entry-gate.ensures at c.write_gate.ensures) in
+    (rw c.from-gate.ensures at c.write_gate.ensures) in
     (ap length new ∙ length-sets a.image.now 0 (joined record_of (l.q + 1)), new)

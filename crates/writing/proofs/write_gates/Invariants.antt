@@ -9,4 +9,4 @@ use Rattle.writing.proofs.write_gates.Given as goal
 abbrev pub invariant-loop-q : goal.invariant-loop-q
 invariant-loop-q l =
     (length l.image ≡ length l.initial.image)
-    × (l.image ≡ sets l.initial.image 0 (joined (λ (k : ℕ). record_in l.words.text.now l.words.starts.now l.words.lines.now l.words.count l.heads l.sources.pins.now l.sources.counts.now l.sources.inputs l.place (get_or l.order k 0)) l.q))
+    × (l.image ≡ sets l.initial.image 0 (joined (λ (k : ℕ). record_in l.model.words.now.text.now l.model.words.now.starts.now l.model.words.now.lines.now l.model.words.now.count l.model.heads.now l.model.sources.pins.now l.model.sources.counts.now l.model.sources.inputs l.placement.place.now (get_or l.placement.order.now k 0)) l.q))

@@ -15,8 +15,8 @@ pub loop-k-preserved : goal.loop-k-preserved
 loop-k-preserved c =
     let l = c.loop-k in
     let a = c.args in
-    let word = output_in a.inputs a.place.now a.outs.now in
-    let source = c.source_of-source.ensures.0 ∙ ap (source_of a.inputs a.place.now) c.entry.ensures in
-    let new = joined-turn word a.image.now l.image _ (record_bytes * a.gates) l.k (middle_bytes a.gates l.k)
+    let word = output_in a.model.now.sources.inputs a.place.now a.model.now.outs.now in
+    let source = c.source_of-source.ensures.0 ∙ ap (source_of a.model.now.sources.inputs a.place.now) c.entry.ensures in
+    let new = joined-turn word a.image.now l.image _ (record_bytes * length a.model.now.heads.now) l.k (middle_bytes (length a.model.now.heads.now) l.k)
     (omega (arith, length-joined word output_bytes (λ i. refl) l.k)) l.invariant.1 (rw source at c.write_output.ensures) in
-    (ap length new ∙ length-sets a.image.now (record_bytes * a.gates) (joined word (l.k + 1)), new)
+    (ap length new ∙ length-sets a.image.now (record_bytes * length a.model.now.heads.now) (joined word (l.k + 1)), new)

@@ -9,4 +9,4 @@ use Rattle.writing.proofs.write_outputs.Given as goal
 
 abbrev pub invariant-loop-k : goal.invariant-loop-k
 invariant-loop-k l =
-    (length l.image ≡ length l.initial.image) × (l.image ≡ sets l.initial.image (record_bytes * l.gates) (joined (output_in l.inputs l.place l.outs) l.k))
+    (length l.image ≡ length l.initial.image) × (l.image ≡ sets l.initial.image (record_bytes * length l.model.heads.now) (joined (output_in l.model.sources.inputs l.place l.model.outs.now) l.k))
