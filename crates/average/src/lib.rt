@@ -201,71 +201,72 @@ pub trait RowSink {
         ensures fixed_2 { fixed self.new ≡ fixed self.old };
 }
 
-// The row with this number, worked out unless the sink skips it.
-#[inline(always)]
-fn walk_row<S: RowSink>(
-    held: &mut HeldRows,
-    sink: &mut S,
-    walk: &Walk,
-    words: &[u64; area::MOST_SOURCES],
-    number: usize,
-)
-    requires planned { Planned walk.now.area.now walk.now.next.now walk.now.unseen.now }
-    requires values_from { ValuesFrom walk.now.area.now words.now (row_length * number) × (number < row_count) }
-    requires rows_kept { RowsFor walk.now.area.now walk.now.unseen.now held.old.rows held.old.number }
-    requires done { S.Done sink.old walk.now.area.now (row_length * number) }
-    ensures done_2 { S.Done sink.new walk.now.area.now (row_length * (number + 1)) × (S.fixed sink.new ≡ S.fixed sink.old) }
-    ensures rows_kept_2 { RowsFor walk.now.area.now walk.now.unseen.now held.new.rows held.new.number }
-{
-    let start = rows::LANES * number;
-    if sink.skips(walk.area, start, rows::LANES) {
-        return;
+impl HeldRows {
+    // The row with this number, worked out unless the sink skips it.
+    #[inline(always)]
+    fn walk_row<S: RowSink>(
+        &mut self,
+        sink: &mut S,
+        walk: &Walk,
+        words: &[u64; area::MOST_SOURCES],
+        number: usize,
+    )
+        requires planned { Planned walk.now.area.now walk.now.next.now walk.now.unseen.now }
+        requires values_from { ValuesFrom walk.now.area.now words.now (row_length * number) × (number < row_count) }
+        requires rows_kept { RowsFor walk.now.area.now walk.now.unseen.now self.old.rows self.old.number }
+        requires done { S.Done sink.old walk.now.area.now (row_length * number) }
+        ensures done_2 { S.Done sink.new walk.now.area.now (row_length * (number + 1)) × (S.fixed sink.new ≡ S.fixed sink.old) }
+        ensures rows_kept_2 { RowsFor walk.now.area.now walk.now.unseen.now self.new.rows self.new.number }
+    {
+        let start = rows::LANES * number;
+        if sink.skips(walk.area, start, rows::LANES) {
+            return;
+        }
+        self.work(walk.area, walk.next, walk.unseen, words, number);
+        sink.take(walk.area, start, reliability_row(&self.rows, walk.area));
     }
-    held.work(walk.area, walk.next, walk.unseen, words, number);
-    sink.take(walk.area, start, reliability_row(&held.rows, walk.area));
-}
 
-// Both rows of a block, from this one on, from the same words.
-fn walk_rows<S: RowSink>(
-    held: &mut HeldRows,
-    sink: &mut S,
-    walk: &Walk,
-    words: &[u64; area::MOST_SOURCES],
-    first: usize,
-)
-    requires planned { Planned walk.now.area.now walk.now.next.now walk.now.unseen.now × (first + 2 ≤ row_count) }
-    requires values_from { (n : ℕ) → first ≤ n → n < first + 2 → ValuesFrom walk.now.area.now words.now (row_length * n) }
-    requires rows_kept { RowsFor walk.now.area.now walk.now.unseen.now held.old.rows held.old.number }
-    requires done { S.Done sink.old walk.now.area.now (row_length * first) }
-    ensures done_2 { S.Done sink.new walk.now.area.now (row_length * (first + 2)) × (S.fixed sink.new ≡ S.fixed sink.old) }
-    ensures rows_kept_2 { RowsFor walk.now.area.now walk.now.unseen.now held.new.rows held.new.number }
-{
-    for number in first..first + 2 {
-        walk_row(held, sink, walk, words, number);
+    // Both rows of a block, from this one on, from the same words.
+    fn walk_rows<S: RowSink>(
+        &mut self,
+        sink: &mut S,
+        walk: &Walk,
+        words: &[u64; area::MOST_SOURCES],
+        first: usize,
+    )
+        requires planned { Planned walk.now.area.now walk.now.next.now walk.now.unseen.now × (first + 2 ≤ row_count) }
+        requires values_from { (n : ℕ) → first ≤ n → n < first + 2 → ValuesFrom walk.now.area.now words.now (row_length * n) }
+        requires rows_kept { RowsFor walk.now.area.now walk.now.unseen.now self.old.rows self.old.number }
+        requires done { S.Done sink.old walk.now.area.now (row_length * first) }
+        ensures done_2 { S.Done sink.new walk.now.area.now (row_length * (first + 2)) × (S.fixed sink.new ≡ S.fixed sink.old) }
+        ensures rows_kept_2 { RowsFor walk.now.area.now walk.now.unseen.now self.new.rows self.new.number }
+    {
+        for number in first..first + 2 {
+            self.walk_row(sink, walk, words, number);
+        }
     }
-}
 
-// The 64 patterns of a block: right values for all of them in one word, failures in two rows. The words are lent where they are made, since an array
-// that a `let` takes from a call has two places on the stack.
-fn walk_block<S: RowSink>(held: &mut HeldRows, sink: &mut S, walk: &Walk, block: usize)
-    requires planned { Planned walk.now.area.now walk.now.next.now walk.now.unseen.now × (2 * block < row_count) }
-    requires rows_kept { RowsFor walk.now.area.now walk.now.unseen.now held.old.rows held.old.number }
-    requires done { S.Done sink.old walk.now.area.now (lane_count * block) }
-    ensures done_2 { S.Done sink.new walk.now.area.now (lane_count * (block + 1)) × (S.fixed sink.new ≡ S.fixed sink.old) }
-    ensures rows_kept_2 { RowsFor walk.now.area.now walk.now.unseen.now held.new.rows held.new.number }
-{
-    let first = signals::LANES * block;
-    if sink.skips(walk.area, first, signals::LANES) {
-        return;
+    // The 64 patterns of a block: right values for all of them in one word, failures in two rows. The words are lent where they are made, since an array
+    // that a `let` takes from a call has two places on the stack.
+    fn walk_block<S: RowSink>(&mut self, sink: &mut S, walk: &Walk, block: usize)
+        requires planned { Planned walk.now.area.now walk.now.next.now walk.now.unseen.now × (2 * block < row_count) }
+        requires rows_kept { RowsFor walk.now.area.now walk.now.unseen.now self.old.rows self.old.number }
+        requires done { S.Done sink.old walk.now.area.now (lane_count * block) }
+        ensures done_2 { S.Done sink.new walk.now.area.now (lane_count * (block + 1)) × (S.fixed sink.new ≡ S.fixed sink.old) }
+        ensures rows_kept_2 { RowsFor walk.now.area.now walk.now.unseen.now self.new.rows self.new.number }
+    {
+        let first = signals::LANES * block;
+        if sink.skips(walk.area, first, signals::LANES) {
+            return;
+        }
+        let patterns = block_patterns(area::inputs(walk.area), first);
+        self.walk_rows(
+            sink,
+            walk,
+            &live_words(walk.area, walk.next, &patterns),
+            2 * block,
+        );
     }
-    let patterns = block_patterns(area::inputs(walk.area), first);
-    walk_rows(
-        held,
-        sink,
-        walk,
-        &live_words(walk.area, walk.next, &patterns),
-        2 * block,
-    );
 }
 
 // Not inlined: its rows are not on the stack while `plan::next_live` works. No `Walk` that it makes stands in memory, or both arrays would be copied there.
@@ -287,7 +288,7 @@ fn walk_blocks<S: RowSink>(
         number: NO_ROW,
     };
     for block in 0..blocks {
-        walk_block(&mut held, sink, &walk, block);
+        held.walk_block(sink, &walk, block);
     }
 }
 

@@ -1,8 +1,9 @@
 -- Marks on gates: 0 not seen. Gates that are seen lie on a pile until their sources are seen too.
-use Rattle.std.specs.Prelude.{ℕ, ◌+◌, ◌<◌, ◌≤◌, Bool, true, false, ◌≡◌, length, get_or}
+use Rattle.std.specs.Prelude.{ℕ, ◌+◌, ◌-◌, ◌<◌, ◌≤◌, Bool, true, false, ◌≡◌, length, get_or, Option, MatchOption}
 use mathlib.Core.List.{List, Memᴰ}
 use Rattle.area.specs.Layout.{most_gates}
 use Rattle.placing.specs.Placing.{Depends, left}
+use Rattle.loops.specs.declared.Search.{Search}
 
 -- how many gates of a table are not seen
 unfoldable pub unseen : List ℕ → ℕ
@@ -31,6 +32,19 @@ pub record Marked (n : ℕ) (ds old under : List ℕ) (start : ℕ) (new pile : 
   pub only : (i : ℕ) → get_or old i 0 ≡ 0 → 0 < get_or new i 0 → Memᴰ (n + i) ds × Lies pile start top i
   pub kept : (p : ℕ) → p < start → get_or pile p 0 ≡ get_or under p 0
   pub added : (p : ℕ) → start ≤ p → p < top → Memᴰ (n + get_or pile p 0) ds
+
+-- the same of a search
+abbrev pub HasRoom : Search → Type 0
+HasRoom s = Room s.marks s.pile s.top
+
+abbrev pub MarkedBy : ℕ → List ℕ → Search → Search → Type 0
+MarkedBy n ds s t = Marked n ds s.marks s.pile s.top t.marks t.pile t.top
+
+-- the gate on top of the pile is taken off, or none lies there
+abbrev pub Taken : Search → Option ℕ → Search → Type 0
+Taken s r t =
+    (t.marks ≡ s.marks) × (t.pile ≡ s.pile)
+    × MatchOption r (s.top ≡ 0) (λ (gate : ℕ). (0 < s.top) × (t.top ≡ s.top - 1) × (gate ≡ get_or s.pile (s.top - 1) 0))
 
 -- gates that do not depend on themselves have entries
 abbrev pub Clear : (ℕ → List ℕ) → ℕ → List ℕ → Type 0

@@ -4,8 +4,8 @@
 ghost use Rattle.std.specs.Prelude.{◌≡◌, [], ◌∷◌, ℕ, ◌+◌, ◌-◌, ◌*◌, ◌<◌, ◌≤◌, length, get_or};
 ghost use Rattle.area.specs.Layout.{most_pins, most_inputs, most_gates};
 ghost use Rattle.refusal.specs.Judgement.{Fine};
-ghost use Rattle.placing.specs.Placing.{entries, lent_sources, LentTables, Reads, Kept, Placed, loop_fault};
-ghost use Rattle.loops.specs.Marks.{Room, Marked, Clear, Answers};
+ghost use Rattle.placing.specs.Placing.{lent_sources, LentTables, Reads, Kept, Placed, loop_fault};
+ghost use Rattle.loops.specs.Marks.{HasRoom, MarkedBy, Taken, Clear, Answers};
 
 use placing::Sources;
 use refusal::{Cause, Refusal};
@@ -13,79 +13,58 @@ use refusal::{Cause, Refusal};
 // Each gate is put on the pile once, and the one that the search begins with once more.
 const PILE: usize = area::MOST_GATES + 1;
 
-// Marks a source that is a gate not yet marked, and puts it on the pile; how many gates lie there now.
-fn mark_one(
-    marks: &mut [u16; area::MOST_GATES],
-    pile: &mut [u16; PILE],
+// The gates that a search has seen, and on a pile those whose sources are still to be seen.
+// Marks are numbers and no bools: they begin as the places of gates, and specs/Marks.antt `Room`, `Marked`, `Clear` say them so.
+#[derive(Drop)]
+struct Search {
+    marks: [u16; area::MOST_GATES],
+    pile: [u16; PILE],
     top: usize,
-    n: usize,
-    source: usize,
-) -> usize
-    requires { Room marks.old pile.old top × (n ≤ most_inputs) × (source < n + most_gates) }
-    ensures { Marked n (source ∷ []) marks.old pile.old top marks.new pile.new result }
-{
-    if source < n {
-        return top;
-    }
-    let gate = source - n;
-    if marks[gate] == 0 {
-        marks[gate] = 1;
-        pile[top] = gate as u16;
-        return top + 1;
-    }
-    top
 }
 
-// Marks the gates among the `many` sources from entry `from` on.
-fn mark(
-    marks: &mut [u16; area::MOST_GATES],
-    pile: &mut [u16; PILE],
-    top: usize,
-    sources: Sources,
-    from: usize,
-    many: usize,
-) -> usize
-    requires { Room marks.old pile.old top × (sources.inputs ≤ most_inputs) × (from + many ≤ most_pins * most_gates)
-        × ((k : ℕ) → get_or sources.pins.now k 0 < sources.inputs + most_gates) }
-    ensures { Marked sources.entry.inputs (entries sources.entry.pins.now from many) marks.old pile.old top marks.new pile.new result }
-{
-    let mut lying = top;
-    for i in from..from + many {
-        lying = mark_one(
-            marks,
-            pile,
-            lying,
-            sources.inputs,
-            usize::from(sources.pins[i]),
-        );
+impl Search {
+    // Marks a source that is a gate not yet marked, and puts it on the pile.
+    fn mark_source(&mut self, inputs: usize, source: usize)
+        requires { HasRoom self.old × (inputs ≤ most_inputs) × (source < inputs + most_gates) }
+        ensures { MarkedBy inputs (source ∷ []) self.old self.new }
+    {
+        if source < inputs {
+            return;
+        }
+        let gate = source - inputs;
+        if self.marks[gate] == 0 {
+            self.marks[gate] = 1;
+            self.pile[self.top] = gate as u16;
+            self.top += 1;
+        }
     }
-    lying
-}
 
-// Marks what a gate reads.
-fn mark_gate(
-    marks: &mut [u16; area::MOST_GATES],
-    pile: &mut [u16; PILE],
-    top: usize,
-    sources: Sources,
-    gate: usize,
-) -> usize
-    requires { Room marks.old pile.old top × (gate < most_gates) × LentTables sources }
-    ensures { Marked sources.entry.inputs (lent_sources sources.entry gate) marks.old pile.old top
-        marks.new pile.new result }
-{
-    mark(
-        marks,
-        pile,
-        top,
-        sources,
-        area::MOST_PINS * gate,
-        usize::from(sources.counts[gate]),
-    )
+    // Marks what a gate reads.
+    fn mark_gate(&mut self, sources: Sources, gate: usize)
+        requires { HasRoom self.old × (gate < most_gates) × LentTables sources }
+        ensures { MarkedBy sources.entry.inputs (lent_sources sources.entry gate) self.old self.new }
+    {
+        let from = area::MOST_PINS * gate;
+        let many = usize::from(sources.counts[gate]);
+        for i in from..from + many {
+            self.mark_source(sources.inputs, usize::from(sources.pins[i]));
+        }
+    }
+
+    // The gate on top of the pile, which is taken off.
+    fn next(&mut self) -> Option<usize>
+        requires { HasRoom self.old }
+        ensures { Taken self.old result self.new }
+    {
+        if self.top == 0 {
+            return None;
+        }
+        self.top -= 1;
+        Some(usize::from(self.pile[self.top]))
+    }
 }
 
 // Whether a gate depends on itself. Those with an entry in `clear` are known not to, so no way back leads through them.
-// Marks are numbers and no bools: they begin as the places of gates, and specs/Marks.antt `Room`, `Marked`, `Clear` say them so.
 fn on_itself(clear: &[u16; area::MOST_GATES], sources: Sources, gates: usize, gate: usize) -> bool
     requires gate_lt_gates { (gate < gates) × (gates ≤ most_gates) × LentTables sources × ((j i : ℕ) → j < gates
         → Reads (lent_sources sources) sources.inputs j i → i < gates) }
@@ -95,16 +74,16 @@ fn on_itself(clear: &[u16; area::MOST_GATES], sources: Sources, gates: usize, ga
     if clear[gate] != 0 {
         return false;
     }
-    let mut marks = *clear;
-    let mut pile = [0u16; PILE];
-    pile[0] = gate as u16;
-    let mut top = 1;
-    // The pile grows while it is gone through.
-    while top > 0 {
-        let at = usize::from(pile[top - 1]);
-        top = mark_gate(&mut marks, &mut pile, top - 1, sources, at);
+    let mut search = Search {
+        marks: *clear,
+        pile: [0; PILE],
+        top: 1,
+    };
+    search.pile[0] = gate as u16;
+    while let Some(taken) = search.next() {
+        search.mark_gate(sources, taken);
     }
-    marks[gate] != 0
+    search.marks[gate] != 0
 }
 
 // The first gate that depends on itself is refused at its line.

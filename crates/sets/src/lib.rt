@@ -12,6 +12,7 @@ ghost use Rattle.sets.specs.Branches.{Marks, NextMarked, Stands, sum_begun, Same
 ghost use Rattle.sets.specs.Branches.{ReadsUnmarked, Settled};
 
 // How many of the gates have two readers or more; the first gate is source `inputs`.
+// Not one function with `live::live_gates`: that sums `live_counted`, this lists by `shared_from`, and one for both would be a third, with a lemma for each.
 pub fn shared_gates(readers: &[u32; area::MOST_SOURCES], inputs: usize, gates: usize) -> usize
     requires { inputs + gates ≤ layout.most_sources }
     ensures { result ≡ length (shared_from (λ s. get_or readers.now s 0) inputs gates) }

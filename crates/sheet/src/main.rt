@@ -11,11 +11,18 @@ fn print_refused(rt: &impl Print, refusal: Refusal) -> io::Result<()> {
     println!(rt; "refused {refusal}")
 }
 
+// How many inputs a netlist has.
+#[derive(Clone, Copy)]
+struct Inputs {
+    count: usize,
+    ghost few: { count ≤ most_inputs },
+}
+
 // An opened netlist has no more inputs than that, so this takes nothing away: it bounds what is printed.
-fn at_most(inputs: usize) -> usize
-    ensures { result ≤ most_inputs }
-{
-    inputs.min(area::MOST_INPUTS)
+fn at_most(inputs: usize) -> Inputs {
+    Inputs {
+        count: inputs.min(area::MOST_INPUTS),
+    }
 }
 
 // The values of the most inputs as digits, input 0 first.
@@ -31,20 +38,16 @@ fn spell_pattern(pattern: u32) -> [u8; area::MOST_INPUTS]
     text
 }
 
-fn print_pattern(rt: &impl Print, pattern: u32, inputs: usize) -> io::Result<()>
-    requires { inputs ≤ most_inputs }
-{
-    if inputs == 0 {
+fn print_pattern(rt: &impl Print, pattern: u32, inputs: Inputs) -> io::Result<()> {
+    if inputs.count == 0 {
         return print!(rt; "-");
     }
     let text = spell_pattern(pattern);
-    io::writer(rt).write_all(&text[..inputs])
+    io::writer(rt).write_all(&text[..inputs.count])
 }
 
 // One line: the area's pattern and its reliability.
-fn print_reliability(rt: &impl Print, area: &[u32], inputs: usize) -> io::Result<()>
-    requires { inputs ≤ most_inputs }
-{
+fn print_reliability(rt: &impl Print, area: &[u32], inputs: Inputs) -> io::Result<()> {
     match bench::read_netlist(area) {
         Ok(figures) => {
             print_pattern(rt, figures.pattern, inputs)?;
@@ -55,11 +58,9 @@ fn print_reliability(rt: &impl Print, area: &[u32], inputs: usize) -> io::Result
 }
 
 // Goes on from pattern q to q + 1: toggles the inputs up to and with the lowest that is 0. After the last pattern comes pattern 0.
-fn next_pattern(area: &mut [u32], q: usize, inputs: usize)
-    requires { inputs ≤ most_inputs }
-{
+fn next_pattern(area: &mut [u32], q: usize, inputs: Inputs) {
     let mut rest = q;
-    for input in 0..inputs {
+    for input in 0..inputs.count {
         // An opened netlist has this input, so nothing is refused.
         let _ = bench::toggle_input(area, input as u32);
         if rest % 2 == 0 {
@@ -69,10 +70,8 @@ fn next_pattern(area: &mut [u32], q: usize, inputs: usize)
     }
 }
 
-fn print_patterns(rt: &impl Print, area: &mut [u32], inputs: usize) -> io::Result<()>
-    requires { inputs ≤ most_inputs }
-{
-    for q in 0..average::pattern_count(inputs) {
+fn print_patterns(rt: &impl Print, area: &mut [u32], inputs: Inputs) -> io::Result<()> {
+    for q in 0..average::pattern_count(inputs.count) {
         print_reliability(rt, area, inputs)?;
         next_pattern(area, q, inputs);
     }
@@ -85,11 +84,9 @@ fn equal_weights() -> [u32; area::MOST_PATTERNS]
     [1; area::MOST_PATTERNS]
 }
 
-fn print_average(rt: &impl Print, area: &mut [u32], inputs: usize) -> io::Result<()>
-    requires { inputs ≤ most_inputs }
-{
+fn print_average(rt: &impl Print, area: &mut [u32], inputs: Inputs) -> io::Result<()> {
     let weights = equal_weights();
-    let count = average::pattern_count(inputs);
+    let count = average::pattern_count(inputs.count);
     match bench::average(area, &weights[..count]) {
         Ok(units) => println!(rt; "average {units}"),
         Err(refusal) => print_refused(rt, refusal),

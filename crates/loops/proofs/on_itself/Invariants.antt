@@ -4,9 +4,9 @@ use Rattle.loops.specs.Marks.{unseen}
 use Rattle.loops.proofs.Tracing.{Tracing}
 use Rattle.loops.proofs.on_itself.Given as goal
 
-abbrev pub invariant-loop-top : goal.invariant-loop-top
-invariant-loop-top l =
-    Tracing (sources_of l.sources.pins.now l.sources.counts.now) l.sources.inputs l.gates l.gate l.clear l.marks l.pile l.top
+abbrev pub invariant-loop-taken : goal.invariant-loop-taken
+invariant-loop-taken l =
+    Tracing (sources_of l.sources.pins.now l.sources.counts.now) l.sources.inputs l.gates l.gate l.clear l.search.marks l.search.pile l.search.top
 
-abbrev pub decreases-loop-top : goal.decreases-loop-top
-decreases-loop-top l = 2 * unseen l.marks + l.top
+abbrev pub decreases-loop-taken : goal.decreases-loop-taken
+decreases-loop-taken l = 2 * unseen l.search.marks + l.search.top

@@ -1,9 +1,9 @@
--- `average::walk_row` meets its contract: a row that is worked out has the reliabilities. Assumes nothing.
+-- `average::HeldRows::walk_row` meets its contract: a row that is worked out has the reliabilities. Assumes nothing.
 use Prim.Native.Nat.{◌*◌}
 use mathlib.Core.Path.{◌∙◌}
 use Rattle.average.proofs.BlockWords.{outputs_fit, row-product}
 use Rattle.rows.specs.Rows.{row_length}
-use Rattle.average.proofs.walk_row.Goals as goal
+use Rattle.average.proofs.HeldRows.walk_row.Goals as goal
 
 pub reliability_row-requires : goal.reliability_row-requires
 reliability_row-requires g c =

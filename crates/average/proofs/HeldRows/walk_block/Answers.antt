@@ -1,10 +1,10 @@
--- `average::walk_block` meets its contract: both rows read the words of one block. Assumes nothing.
+-- `average::HeldRows::walk_block` meets its contract: both rows read the words of one block. Assumes nothing.
 use Prim.Native.Nat.{◌*◌}
 use native.Mathlib.Omega.{arith}
 use Rattle.rows.specs.Rows.{row_length}
 use Rattle.signals.specs.Signals.{lane_count}
 use Rattle.average.proofs.BlockWords.{values-from}
-use Rattle.average.proofs.walk_block.Goals as goal
+use Rattle.average.proofs.HeldRows.walk_block.Goals as goal
 
 pub walk_rows-requires-clause-values_from : goal.walk_rows-requires-clause-values_from
 walk_rows-requires-clause-values_from g c =
