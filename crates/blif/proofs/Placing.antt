@@ -15,7 +15,7 @@ use Rattle.model.specs.Model.{defined}
 use Rattle.model.specs.Counts.{line_at}
 use Rattle.model.specs.Tables.{lines_from}
 use Rattle.blif.specs.Reading.{no_place, loops_fault}
-use Rattle.blif.specs.Resolved.{Resolved}
+use Rattle.blif.specs.Resolved.{Resolved, Numbered}
 use Rattle.refusal.specs.declared.Cause.TheVariants.{TextModel}
 
 left-zeros : (n k : ℕ) → left (replicate n 0) k ≡ k
@@ -35,17 +35,18 @@ none-placed S n g =
       count = rw (zero-add, left-zeros 1024 g);
     }
 
-module _ {t s l : List ℕ} {n : ℕ} {heads pins counts outs numbers : List ℕ} {inputs gates outputs : ℕ}
-    (r : Resolved t s l n heads pins counts outs numbers inputs gates outputs) where
+module _ {t s l : List ℕ} {n : ℕ} {heads pins counts outs : List ℕ} {inputs gates outputs : ℕ}
+    (r : Resolved t s l n heads pins counts outs inputs gates outputs) where
   pub tables : Tables inputs pins counts
   tables = record { few = r.counted.few_inputs; many = r.few_pins; known = r.pins_known }
 
-  pub same-loops : loop_fault (sources_of pins counts) inputs gates (λ (j : ℕ). get_or numbers (inputs + j) 0) ≡ loops_fault (lines_from t s l n 0)
+  pub same-loops : {numbers : List ℕ} → Numbered t s l n numbers inputs gates
+      → loop_fault (sources_of pins counts) inputs gates (λ (j : ℕ). get_or numbers (inputs + j) 0) ≡ loops_fault (lines_from t s l n 0)
   unfolding loop_fault
-  same-loops =
+  same-loops {numbers} q =
       lowest-same
       (λ (j : ℕ). refuse_unless (not (via (sources_of pins counts) inputs gates j j)) TextModel (get_or numbers (inputs + j) 0))
       (λ (j : ℕ). refuse_unless (not (via (sources_of pins counts) inputs gates j j)) TextModel (line_at (defined (lines_from t s l n 0)) (inputs + j)))
       gates
-      (λ j h. ap (refuse_unless (not (via (sources_of pins counts) inputs gates j j)) TextModel) (r.gate_lines j h))
+      (λ j h. ap (refuse_unless (not (via (sources_of pins counts) inputs gates j j)) TextModel) (q.gate_lines j h))
       ∙ rw (r.sources_are, r.counted.inputs_are, r.counted.gates_are) refl

@@ -40,8 +40,8 @@ map_below f h g order i (suc k) low e =
     shift : (q : ℕ) → i + suc q ≡ suc i + q
     shift q = omega arith
 
-module _ {t s l : List ℕ} {n : ℕ} {heads pins counts outs numbers place order : List ℕ} {inputs gates outputs : ℕ}
-    (r : Resolved t s l n heads pins counts outs numbers inputs gates outputs)
+module _ {t s l : List ℕ} {n : ℕ} {heads pins counts outs place order : List ℕ} {inputs gates outputs : ℕ}
+    (r : Resolved t s l n heads pins counts outs inputs gates outputs)
     (p : Placed (sources_of pins counts) inputs gates no_place gates place order) where
   abbrev ls : List Line
   ls = lines_from t s l n 0

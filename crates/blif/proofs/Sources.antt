@@ -23,7 +23,7 @@ use Rattle.model.proofs.Runs.{held_at, held-length}
 use Rattle.resolve.specs.Names.{unknown_at, unknown_fault, sources_in, source_numbers}
 use Rattle.resolve.specs.Found.{Sources, Room, Clear}
 use Rattle.blif.specs.Reading.{gate_count}
-use Rattle.blif.specs.Resolved.{Resolved}
+use Rattle.blif.specs.Resolved.{Resolved, Numbered}
 use Rattle.blif.specs.Stages.{Named, OutputsKnown, sources_fault}
 use Rattle.refusal.specs.declared.Cause.TheVariants.{TextModel}
 
@@ -54,6 +54,18 @@ module _ {t s l : List ℕ} {n : ℕ} {names numbers : List ℕ} {many : ℕ} {h
   many-long : many ≡ length (defined (lines_from t s l n 0))
   many-long = sym (held-length t names numbers 0 many) ∙ ap length d.defined_are
 
+  -- the lines that define gates
+  pub numbered : Numbered t s l n numbers inputs gates
+  numbered = record { gate_lines = λ j h. line j h; numbers_long = rw (← d.many_are) d.numbers_long }
+    where
+      line : (j : ℕ) → j < gates → get_or numbers (inputs + j) 0 ≡ line_at (defined (lines_from t s l n 0)) (inputs + j)
+      line j h =
+          let here : inputs + j < many = omega (arith, d.many_are) in
+          sym
+          (ap (λ (ds : List Word). line_at ds (inputs + j)) (sym d.defined_are)
+          ∙ ap (λ (w : Word). w.line) (held_at t names numbers 0 many (inputs + j) here)
+          ∙ ap (λ (x : ℕ). get_or numbers x 0) (zero-add (inputs + j)))
+
   -- the refusals of undefined sources
   pub same-sources : lowest (λ (j : ℕ). unknown_fault (held t names numbers 0 many) (sources (gate_from t s l n (get_or heads j 0)))) gates ≡ sources_fault (lines_from t s l n 0)
   same-sources =
@@ -80,7 +92,7 @@ module _ {t s l : List ℕ} {n : ℕ} {names numbers : List ℕ} {many : ℕ} {h
 
     pub resolved : {outs : List ℕ} {outputs : ℕ} → OutputsKnown t s l n outs inputs outputs
         → sources_fault (lines_from t s l n 0) ≡ Fine
-        → Resolved t s l n heads pins counts outs numbers inputs gates outputs
+        → Resolved t s l n heads pins counts outs inputs gates outputs
     resolved {outs} {outputs} o fine =
         record {
           words = d.words;
@@ -104,8 +116,6 @@ module _ {t s l : List ℕ} {n : ℕ} {names numbers : List ℕ} {many : ℕ} {h
           outs_are = o.outs_are;
           outs_known = o.outs_known;
           outs_long = o.outs_long;
-          gate_lines = λ j h. line j h;
-          numbers_long = rw (← d.many_are) d.numbers_long;
         }
       where
         known : (j i : ℕ) → j < gates → Reads (sources_of pins counts) inputs j i → i < gates
@@ -116,11 +126,3 @@ module _ {t s l : List ℕ} {n : ℕ} {names numbers : List ℕ} {many : ℕ} {h
             (lowest-fine (λ (j : ℕ). unknown_fault (defined (lines_from t s l n 0)) (sources_in (lines_from t s l n 0) j)) (gate_count (lines_from t s l n 0)) j (rw (← d.gates_are) h) fine))
             (subst (λ (xs : List ℕ). Memᴰ (inputs + i) xs) (each-source j) m) in
             omega (arith, d.many_are, many-long)
-
-        line : (j : ℕ) → j < gates → get_or numbers (inputs + j) 0 ≡ line_at (defined (lines_from t s l n 0)) (inputs + j)
-        line j h =
-            let here : inputs + j < many = omega (arith, d.many_are) in
-            sym
-            (ap (λ (ds : List Word). line_at ds (inputs + j)) (sym d.defined_are)
-            ∙ ap (λ (w : Word). w.line) (held_at t names numbers 0 many (inputs + j) here)
-            ∙ ap (λ (x : ℕ). get_or numbers x 0) (zero-add (inputs + j)))

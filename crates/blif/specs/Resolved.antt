@@ -18,7 +18,7 @@ pub record Counted (text starts lines : List ℕ) (n inputs gates outputs : ℕ)
   pub few_gates : gates ≤ most_gates
   pub few_outputs : outputs ≤ most_outputs
 
-pub record Resolved (text starts lines : List ℕ) (n : ℕ) (heads pins counts outs numbers : List ℕ) (inputs gates outputs : ℕ) : Type 0 where
+pub record Resolved (text starts lines : List ℕ) (n : ℕ) (heads pins counts outs : List ℕ) (inputs gates outputs : ℕ) : Type 0 where
   pub words : Words text starts lines n
   pub counted : Counted text starts lines n inputs gates outputs
   pub headed : Heads text starts lines n heads gates
@@ -32,5 +32,8 @@ pub record Resolved (text starts lines : List ℕ) (n : ℕ) (heads pins counts 
   pub outs_are : entries outs 0 outputs ≡ output_numbers (lines_from text starts lines n 0)
   pub outs_known : (i : ℕ) → get_or outs i 0 < inputs + most_gates
   pub outs_long : outputs ≤ length outs
+
+-- the lines that define the gates, after those that define the inputs
+pub record Numbered (text starts lines : List ℕ) (n : ℕ) (numbers : List ℕ) (inputs gates : ℕ) : Type 0 where
   pub gate_lines : (j : ℕ) → j < gates → get_or numbers (inputs + j) 0 ≡ line_at (defined (lines_from text starts lines n 0)) (inputs + j)
   pub numbers_long : inputs + gates ≤ length numbers

@@ -5,7 +5,7 @@ ghost use Rattle.std.specs.Prelude.{◌≡◌, ◌+◌, ◌<◌, length};
 ghost use Rattle.refusal.specs.Judgement.{unless_refused, answer};
 ghost use Rattle.model.specs.Tables.{lines_in};
 ghost use Rattle.blif.specs.Reading.{text_lines, model_length, room_fault, lines_refusal, blif_refusal, image_over, blif_left};
-ghost use Rattle.blif.specs.Lent.{SameText, LentNamed, LentOutputs, LentResolved, LentPlaced};
+ghost use Rattle.blif.specs.Lent.{SameText, LentNamed, LentOutputs, LentResolved, LentNumbered, LentPlaced};
 ghost use Rattle.blif.specs.Stages.{placed_refusal, gates_refusal, outputs_refusal, names_refusal, Within, Fitting};
 ghost use Rattle.model.specs.Counts.{earlier, some_fault, count_fault};
 ghost use Rattle.writing.specs.Lent.{HeldWords};
@@ -17,13 +17,8 @@ use statements::Keyword;
 use writing::{Model, Placement};
 
 // Refusal 20 of a model whose gates are placed; if it does not apply the image is written.
-fn write_fitting(
-    model: &Model,
-    names: &Words,
-    placement: &Placement,
-    image: &mut [u8],
-) -> Result<u32, Refusal>
-    requires resolved { LentResolved names.now model.now }
+fn write_fitting(model: &Model, placement: &Placement, image: &mut [u8]) -> Result<u32, Refusal>
+    requires resolved { LentResolved model.now }
     requires placed { LentPlaced model.now placement.now }
     ensures value { result ≡ answer (room_fault (lines_in model.now.words.now 0) (length image.old))
         (model_length (lines_in model.now.words.now 0)) }
@@ -46,7 +41,8 @@ fn write_fitting(
 
 // Refusal 19 for a loop, then 20, of a model whose names are all known.
 fn place_model(model: &Model, names: &Words, image: &mut [u8]) -> Result<u32, Refusal>
-    requires { LentResolved names.now model.now }
+    requires resolved { LentResolved model.now }
+    requires numbered { LentNumbered names.now model.now }
     ensures value { result ≡ answer (placed_refusal (lines_in model.now.words.now 0) (length image.old))
         (model_length (lines_in model.now.words.now 0)) }
     ensures image_after { image.new ≡ unless_refused
@@ -66,7 +62,7 @@ fn place_model(model: &Model, names: &Words, image: &mut [u8]) -> Result<u32, Re
         place: &place,
         order: &order,
     };
-    write_fitting(model, names, &placement, image)
+    write_fitting(model, &placement, image)
 }
 
 // Undefined sources, then loops and 20. The outputs are known.

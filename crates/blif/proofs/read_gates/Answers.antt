@@ -7,7 +7,7 @@ use Rattle.model.specs.Tables.{lines_from}
 use Rattle.blif.specs.Reading.{model_length, image_over}
 use Rattle.blif.proofs.Chain.{stops, goes_on}
 use Rattle.blif.specs.Stages.{sources_fault, placed_refusal}
-use Rattle.blif.proofs.Sources.{cleared, roomy, same-sources, resolved}
+use Rattle.blif.proofs.Sources.{cleared, roomy, same-sources, resolved, numbered}
 use Rattle.blif.proofs.read_gates.Goals as goal
 
 pub resolve_gates-requires : goal.resolve_gates-requires
@@ -20,8 +20,9 @@ place_model-requires c =
     let at-resolve-gates = c.resolve_gates in
     let a = c.args in
     let told = c.in_ok-resolve_gates.was in
-    resolved c.requires.named (at-resolve-gates.ensures.sources told a.names.now.lines.now) c.requires.outputs_known
-    (sym (at-resolve-gates.ensures.by_index a.names.now.lines.now ∙ same-sources c.requires.named) ∙ told)
+    let known = resolved c.requires.named (at-resolve-gates.ensures.sources told a.names.now.lines.now) c.requires.outputs_known
+    (sym (at-resolve-gates.ensures.by_index a.names.now.lines.now ∙ same-sources c.requires.named) ∙ told) in
+    record { resolved = known; numbered = numbered c.requires.named }
 
 pub returns : goal.returns
 returns c =
