@@ -43,6 +43,9 @@ def functions(texts):
                 i += 1
             params = [p.strip() for p in re.split(r",(?![^<\[(]*[>\])])", text[m.end():i - 1]) if p.strip()]
             start = text.find("\n" + re.match(r" *", m.group(0)).group(0) + "{\n", i)
+            declared = text.find(";\n", i)
+            if 0 <= declared < start or start < 0:
+                start = -1
             end = text.find("\n" + re.match(r" *", m.group(0)).group(0) + "}\n", i)
             body = text[start:end] if 0 <= start < end else ""
             clauses = re.findall(r"(?m)^ +requires \w* ?\{ (.*) \}$", text[i:start] if start > 0 else "")

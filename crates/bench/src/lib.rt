@@ -184,7 +184,8 @@ fn judge_gate_summed(area: &[u32], gate: u32, sum: u64) -> Result<(), Refusal>
     judge_named(gate, area::gates(area))
 }
 
-// The gate exists, and has so many live readers: refusals 11 and 22, else the flip is set, and with it the raw flip sum.
+// The gate exists, and has so many live readers: refusals 11 and 22, else the flip is set, and with it the raw flip sum. Area, gate, kind and field are what
+// the call in C gives, here and below.
 fn set_known_flip(
     area: &mut [u32],
     gate: u32,
