@@ -10,13 +10,13 @@ use Rattle.statements.proofs.Walking.{stepped}
 use Rattle.statements.proofs.Faults.{fault-here, fault-later, fault-end, not-ended}
 use Rattle.statements.proofs.fault.Goals as goal
 
-pub fit-requires : goal.fit-requires
-fit-requires c =
+pub invariant_of-part : goal.invariant_of-part
+invariant_of-part c =
     let w = c.args.words.now in
     let s = stepped c.loop-line.invariant.2 c.in-Some.ensures.steps in
     let first = c.in-Some.line.first in
     let short : c.in-Some.line.rest ≤ w.count - (first + 1) = rw s.words (alike-short w.lines.now (get_or w.lines.now first 0) (first + 1) (w.count - (first + 1))) in
-    places-less c.requires.0 (omega (arith, s.inside))
+    (places-less c.requires.0 (omega (arith, s.inside)), omega (arith, s.inside, c.requires.0.within))
 
 pub line-requires : goal.line-requires
 line-requires c =
