@@ -10,10 +10,8 @@ use lib.ListN.{length, get_or, drop}
 use lib.Dec.{eqb}
 use borrow.Author.Tests.{eq-eqb, ne_eqb, eqb-true, eqb-false}
 use Rattle.texts.specs.Words.{word_of, word_at, held}
-use Rattle.names.specs.Names.{is_name}
 use Rattle.statements.specs.Lines.{Line, line_of, joined, lines_of, bytes_from, alike, Places}
-use Rattle.statements.specs.Fit.{all_names}
-use Rattle.statements.specs.declared.Part.{Part}
+use Rattle.statements.specs.declared.Part.TheInside.{Inside}
 use Rattle.statements.specs.Part.{bytes_in}
 
 -- one less is left
@@ -32,17 +30,12 @@ bytes-at t s i (suc k) (suc j) h = bytes-at t s (suc i) k j (omega arith) ∙ rw
     shift : suc i + j ≡ i + suc j
     shift = omega arith
 
-pub length-part : (p : Part) → length (bytes_in p) ≡ p.many
-length-part p = length-bytes p.words.text.now p.words.starts.now p.from p.many
+pub length-part : (p : Inside) → length (bytes_in p) ≡ p.many
+length-part p = length-bytes p.words.now.text.now p.words.now.starts.now p.from p.many
 
 -- fewer places
 pub places-less : {t s : List ℕ} {n m : ℕ} → Places t s n → m ≤ n → Places t s m
 places-less p h = record { within = omega (arith, p.within); inside = λ k lt. p.inside k (omega arith) }
-
--- names among the words of a table
-module _ (t s : List ℕ) (end i : ℕ) (here : i < end) where
-  pub names_more : is_name (word_of (drop (get_or s i 0) t)) ≡ true → all_names (bytes_from t s i (end - i)) ≡ all_names (bytes_from t s (i + 1) (end - (i + 1)))
-  names_more e = rw (one_less end i here, e, add-one)
 
 -- words of one line
 module _ (l : List ℕ) (x n i : ℕ) where

@@ -1,11 +1,10 @@
 // The statements of a text: what a line is, and whether it fits (refusal 18).
 #![tactic(auto)]
 
-ghost use Rattle.std.specs.Prelude.{◌≡◌, ◌+◌, ◌-◌, ◌<◌, ◌≤◌, ◌∷◌, length, get_or};
+ghost use Rattle.std.specs.Prelude.{◌≡◌, ◌+◌, ◌-◌, ◌<◌, ◌≤◌, ◌∷◌, [], length, get_or};
 ghost use Rattle.std.specs.Iterator.{at_most};
 ghost use Rattle.statements.specs.Walk.{CanWalk, NextLine};
 ghost use Rattle.statements.specs.Lines.{Lent, alike, lines_of};
-ghost use Rattle.statements.specs.Part.{Inside, bytes_in};
 ghost use Rattle.statements.specs.Fit.{keyword_of, all_names, value_of, row_byte, is_row, after_model, after_list, after_gate, after_end};
 ghost use Rattle.statements.specs.Fit.{after_value, after_line, after_first, after_heading, after_cover, fit, fault};
 ghost use Rattle.texts.specs.Words.{held};
@@ -13,6 +12,7 @@ ghost use Rattle.names.specs.Names.{HasWord, name_of, is_name};
 
 use names::Words;
 use refusal::{Cause, Refusal};
+use std::marker::Model;
 
 #[derive(Clone, Copy, PartialEq, Eq)]
 pub enum Keyword {
@@ -174,26 +174,48 @@ fn after_value(width: usize, ending: Option<bool>, value: Option<bool>) -> Optio
     }
 }
 
-// The words of a line after its first: `many` of them, from word `from` on.
-// `words` is held by value: behind a second reference nothing bounds the length of its tables.
-#[derive(Clone, Copy)]
+// The words of a line after its first: `many` of them, from word `from` on. A clause sees their bytes.
+#[derive(Drop)]
 struct Part<'a> {
-    words: Words<'a>,
+    words: &'a Words<'a>,
     from: usize,
     many: usize,
+}
+
+impl<'a> Model for Part<'a> {
+    ghost use Rattle.std.specs.Prelude.{ℕ, List};
+    ghost use Rattle.statements.specs.Part.{bytes_in, InText};
+
+    ghost Value = { List (List ℕ) };
+
+    ghost view = { bytes_in };
+
+    ghost invariant = { InText };
 }
 
 // A gate's line: its sources, and its own name.
 const MOST_NAMES: usize = area::MOST_PINS + 1;
 
 // What may follow a line that fits, kind by kind. `first` is its first word.
-impl Part<'_> {
-    fn are_names(&self) -> bool
-        requires { Inside self.now }
-        ensures { result ≡ all_names (bytes_in self.now) }
+impl<'a> Part<'a> {
+    fn count(&self) -> usize
+        ensures { result ≡ length self.now }
     {
-        for k in self.from..self.from + self.many {
-            if !names::is_name(self.words.word(k)) {
+        self.many
+    }
+
+    fn word(&self, i: usize) -> &'a [u8]
+        requires { i < length self.now }
+        ensures { result.now ≡ get_or self.now i [] }
+    {
+        self.words.word(self.from + i)
+    }
+
+    fn are_names(&self) -> bool
+        ensures { result ≡ all_names self.now }
+    {
+        for i in 0..self.count() {
+            if !names::is_name(self.word(i)) {
                 return false;
             }
         }
@@ -202,10 +224,9 @@ impl Part<'_> {
 
     #[tactic(auto, unfolding(crate::specs::Fit::after_model))]
     fn after_model(&self) -> Option<Phase>
-        requires { Inside self.now }
-        ensures { result ≡ after_model (bytes_in self.now) }
+        ensures { result ≡ after_model self.now }
     {
-        if self.many == 1 && self.are_names() {
+        if self.count() == 1 && self.are_names() {
             Some(Phase::Heading)
         } else {
             None
@@ -214,8 +235,7 @@ impl Part<'_> {
 
     #[tactic(auto, unfolding(crate::specs::Fit::after_list))]
     fn after_list(&self) -> Option<Phase>
-        requires { Inside self.now }
-        ensures { result ≡ after_list (bytes_in self.now) }
+        ensures { result ≡ after_list self.now }
     {
         if self.are_names() {
             Some(Phase::Heading)
@@ -226,12 +246,12 @@ impl Part<'_> {
 
     #[tactic(auto, unfolding(crate::specs::Fit::after_gate))]
     fn after_gate(&self) -> Option<Phase>
-        requires { Inside self.now }
-        ensures { result ≡ after_gate (bytes_in self.now) }
+        ensures { result ≡ after_gate self.now }
     {
-        if 1 <= self.many && self.many <= MOST_NAMES && self.are_names() {
+        let many = self.count();
+        if 1 <= many && many <= MOST_NAMES && self.are_names() {
             Some(Phase::Cover {
-                width: self.many - 1,
+                width: many - 1,
                 ending: None,
             })
         } else {
@@ -241,23 +261,21 @@ impl Part<'_> {
 
     // A cover line.
     fn after_line(&self, first: &[u8], width: usize, ending: Option<bool>) -> Option<Phase>
-        requires { Inside self.now }
-        ensures { result ≡ after_line width ending (first.now ∷ bytes_in self.now) }
+        ensures { result ≡ after_line width ending (first.now ∷ self.now) }
     {
-        match self.many {
+        match self.count() {
             0 if width == 0 => after_value(width, ending, value_of(first)),
             1 if width != 0 && is_row(first, width) => after_value(
                 width,
                 ending,
-                value_of(self.words.word(self.from)),
+                value_of(self.word(0)),
             ),
             _ => None,
         }
     }
 
     fn after_first(&self, key: Keyword) -> Option<Phase>
-        requires { Inside self.now }
-        ensures { result ≡ after_first key (bytes_in self.now) }
+        ensures { result ≡ after_first key self.now }
     {
         match key {
             Keyword::Model => self.after_model(),
@@ -266,13 +284,12 @@ impl Part<'_> {
     }
 
     fn after_heading(&self, key: Keyword) -> Option<Phase>
-        requires { Inside self.now }
-        ensures { result ≡ after_heading key (bytes_in self.now) }
+        ensures { result ≡ after_heading key self.now }
     {
         match key {
             Keyword::Inputs | Keyword::Outputs => self.after_list(),
             Keyword::Names => self.after_gate(),
-            Keyword::End => after_end(self.many),
+            Keyword::End => after_end(self.count()),
             _ => None,
         }
     }
@@ -285,12 +302,11 @@ impl Part<'_> {
         width: usize,
         ending: Option<bool>,
     ) -> Option<Phase>
-        requires { Inside self.now }
-        ensures { result ≡ after_cover width ending key first.now (bytes_in self.now) }
+        ensures { result ≡ after_cover width ending key first.now self.now }
     {
         match key {
             Keyword::Names => self.after_gate(),
-            Keyword::End => after_end(self.many),
+            Keyword::End => after_end(self.count()),
             Keyword::Other => self.after_line(first, width, ending),
             _ => None,
         }
@@ -298,8 +314,7 @@ impl Part<'_> {
 
     // Any line, by its first word.
     fn fit(&self, phase: Phase, first: &[u8]) -> Option<Phase>
-        requires { Inside self.now }
-        ensures { result ≡ fit phase (first.now ∷ bytes_in self.now) }
+        ensures { result ≡ fit phase (first.now ∷ self.now) }
     {
         let key = keyword_of(first);
         match phase {
@@ -319,7 +334,7 @@ pub fn fault(words: &Words, last: u32) -> Result<(), Refusal>
     let mut phase = Phase::Before;
     for line in lines_from(words, 0) {
         let part = Part {
-            words: *words,
+            words: &*words,
             from: line.first + 1,
             many: line.rest,
         };

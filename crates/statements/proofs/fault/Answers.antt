@@ -1,27 +1,10 @@
 -- `statements::fault` meets its contract: what is left of the lines decides. Assumes nothing.
-use Prim.Native.Nat.{◌+◌, ◌-◌, ◌≤◌}
 use mathlib.Core.Path.{ap, sym, ◌∙◌}
-use native.Mathlib.Omega.{arith}
-use lib.ListN.{get_or}
 use Rattle.refusal.specs.Judgement.{refused}
 use Rattle.refusal.specs.declared.Cause.TheVariants.{TextLine}
-use Rattle.statements.proofs.Lines.{places-less, alike-short}
 use Rattle.statements.proofs.Walking.{stepped}
-use Rattle.statements.proofs.Faults.{fault-here, fault-later, fault-end, not-ended}
+use Rattle.statements.proofs.Faults.{fault-here, fault-later}
 use Rattle.statements.proofs.fault.Goals as goal
-
-pub fit-requires : goal.fit-requires
-fit-requires c =
-    let w = c.args.words.now in
-    let s = stepped c.loop-line.invariant.2 c.in-Some.ensures.steps in
-    let first = c.in-Some.line.first in
-    let short : c.in-Some.line.rest ≤ w.count - (first + 1) = rw s.words (alike-short w.lines.now (get_or w.lines.now first 0) (first + 1) (w.count - (first + 1))) in
-    places-less c.requires.0 (omega (arith, s.inside))
-
-pub line-requires : goal.line-requires
-line-requires c =
-    let s = stepped c.loop-line.invariant.2 c.in-Some.ensures.steps in
-    omega (arith, s.inside, c.requires.1)
 
 pub returns-in_default : goal.returns-in_default
 returns-in_default c =
@@ -44,17 +27,3 @@ loop-line-preserved c =
       s.goes_on,
       rw s.next (sym (fault-later w.text.now w.starts.now w.lines.now w.count c.args.last l.phase _ _ s.inside s.words _ c.word.ensures c.in-Some-fit.next (sym c.in-Some-fit.is ∙ c.fit.ensures)) ∙ before),
     )
-
-pub returns-in-Ended : goal.returns-in-Ended
-returns-in-Ended c =
-    let l = c.loop-line in
-    let w = c.args.words.now in
-    let past : w.count ≤ l.line-iterator.at = omega (arith, l.invariant.2.count, c.in-None.ensures.steps.2.0) in
-    sym (rw c.in-Ended.is at (fault-end w.text.now w.starts.now w.lines.now w.count c.args.last l.phase _ past)) ∙ rw c.in-Ended.is at l.invariant.3
-
-pub returns-in_default-phase : goal.returns-in_default-phase
-returns-in_default-phase c =
-    let l = c.loop-line in
-    let w = c.args.words.now in
-    let past : w.count ≤ l.line-iterator.at = omega (arith, l.invariant.2.count, c.in-None.ensures.steps.2.0) in
-    sym (rw (not-ended l.phase c.in_default-phase.not-Ended) at (fault-end w.text.now w.starts.now w.lines.now w.count c.args.last l.phase _ past)) ∙ l.invariant.3

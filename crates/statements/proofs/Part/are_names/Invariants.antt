@@ -1,9 +1,7 @@
-use Prim.Native.Nat.{◌+◌, ◌-◌}
 use mathlib.Core.Path.{◌≡◌}
-use Rattle.statements.specs.Lines.{bytes_of}
+use lib.ListN.{drop}
 use Rattle.statements.specs.Fit.{all_names}
-use Rattle.statements.specs.Part.{bytes_in}
 use Rattle.statements.proofs.Part.are_names.Given as goal
 
-abbrev pub invariant-loop-k : goal.invariant-loop-k
-invariant-loop-k l = all_names (bytes_of l.self.words l.k (l.self.from + l.self.many - l.k)) ≡ all_names (bytes_in l.self)
+abbrev pub invariant-loop-i : goal.invariant-loop-i
+invariant-loop-i l = all_names (drop l.i l.self) ≡ all_names l.self
