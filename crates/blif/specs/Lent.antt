@@ -6,19 +6,20 @@ use Rattle.writing.specs.declared.Model.{Model}
 use Rattle.writing.specs.declared.Placement.{Placement}
 use Rattle.placing.specs.Placing.{lent_sources, Placed}
 use Rattle.blif.specs.Reading.{no_place}
+use Rattle.blif.specs.declared.Definitions.{Definitions}
 use Rattle.blif.specs.Resolved.{Resolved, Numbered}
 use Rattle.blif.specs.Stages.{Named, OutputsKnown}
 
--- the names that inputs and gates define are words of the same text
-abbrev pub SameText : Words → Words → Type 0
-SameText names w = names.text.now ≡ w.text.now
+-- the names that inputs and gates define are words of the same text, and each is told by its number
+abbrev pub LentNamed : Definitions → Type 0
+LentNamed d =
+    (d.names.now.text.now ≡ d.words.now.text.now)
+    × Named d.words.now.text.now d.words.now.starts.now d.words.now.lines.now d.words.now.count
+    d.names.now.starts.now d.names.now.lines.now d.names.now.count d.heads.now d.inputs (length d.heads.now)
 
-abbrev pub LentNamed : Words → Words → List ℕ → ℕ → Type 0
-LentNamed names w heads inputs =
-    Named w.text.now w.starts.now w.lines.now w.count names.starts.now names.lines.now names.count heads inputs (length heads)
-
-abbrev pub LentOutputs : Words → List ℕ → ℕ → Type 0
-LentOutputs w outs inputs = OutputsKnown w.text.now w.starts.now w.lines.now w.count outs inputs (length outs)
+abbrev pub LentOutputs : Definitions → List ℕ → Type 0
+LentOutputs d outs =
+    OutputsKnown d.words.now.text.now d.words.now.starts.now d.words.now.lines.now d.words.now.count outs d.inputs (length outs)
 
 abbrev pub LentResolved : Model → Type 0
 LentResolved m =

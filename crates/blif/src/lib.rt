@@ -5,7 +5,7 @@ ghost use Rattle.std.specs.Prelude.{◌≡◌, ◌+◌, ◌<◌, length};
 ghost use Rattle.refusal.specs.Judgement.{unless_refused, answer};
 ghost use Rattle.model.specs.Tables.{lines_in};
 ghost use Rattle.blif.specs.Reading.{text_lines, model_length, room_fault, lines_refusal, blif_refusal, image_over, blif_left};
-ghost use Rattle.blif.specs.Lent.{SameText, LentNamed, LentOutputs, LentResolved, LentNumbered, LentPlaced};
+ghost use Rattle.blif.specs.Lent.{LentNamed, LentOutputs, LentResolved, LentNumbered, LentPlaced};
 ghost use Rattle.blif.specs.Stages.{placed_refusal, gates_refusal, outputs_refusal, names_refusal, Within, Fitting};
 ghost use Rattle.model.specs.Counts.{earlier, some_fault, count_fault};
 ghost use Rattle.writing.specs.Lent.{HeldWords};
@@ -15,6 +15,15 @@ use placing::Sources;
 use refusal::{Cause, Refusal};
 use statements::Keyword;
 use writing::{Model, Placement};
+
+// What a text defines: its words, the names of its inputs and then of its gates, the first word of each gate's line, and how many inputs there are.
+#[derive(Clone, Copy)]
+struct Definitions<'a> {
+    words: &'a Words<'a>,
+    names: &'a Words<'a>,
+    heads: &'a [u16],
+    inputs: usize,
+}
 
 // Refusal 20 of a model whose gates are placed; if it does not apply the image is written.
 fn write_fitting(model: &Model, placement: &Placement, image: &mut [u8]) -> Result<u32, Refusal>
@@ -66,68 +75,65 @@ fn place_model(model: &Model, names: &Words, image: &mut [u8]) -> Result<u32, Re
 }
 
 // Undefined sources, then loops and 20. The outputs are known.
-fn read_gates(
-    words: &Words,
-    names: &Words,
-    heads: &[u16],
-    outs: &[u16],
-    inputs: usize,
-    image: &mut [u8],
-) -> Result<u32, Refusal>
-    requires same_text { SameText names.now words.now }
-    requires named { LentNamed names.now words.now heads.now inputs }
-    requires outputs_known { LentOutputs words.now outs.now inputs }
-    ensures value { result ≡ answer (gates_refusal (lines_in words.now 0) (length image.old))
-        (model_length (lines_in words.now 0)) }
+fn read_gates(definitions: &Definitions, outs: &[u16], image: &mut [u8]) -> Result<u32, Refusal>
+    requires named { LentNamed definitions.now }
+    requires outputs_known { LentOutputs definitions.now outs.now }
+    ensures value { result ≡ answer (gates_refusal (lines_in definitions.now.words.now 0) (length image.old))
+        (model_length (lines_in definitions.now.words.now 0)) }
     ensures image_after { image.new ≡ unless_refused
-        (gates_refusal (lines_in words.now 0) (length image.old))
-        (image_over (lines_in words.now 0) image.old) image.old }
+        (gates_refusal (lines_in definitions.now.words.now 0) (length image.old))
+        (image_over (lines_in definitions.now.words.now 0) image.old) image.old }
 {
     let mut pins = [0u16; placing::PIN_ENTRIES];
     let mut counts = [0u16; area::MOST_GATES];
-    resolve::resolve_gates(names, words, heads, &mut pins, &mut counts)?;
+    resolve::resolve_gates(
+        definitions.names,
+        definitions.words,
+        definitions.heads,
+        &mut pins,
+        &mut counts,
+    )?;
     let sources = Sources {
-        inputs,
+        inputs: definitions.inputs,
         pins: &pins,
         counts: &counts,
     };
     let model = Model {
-        words,
+        words: definitions.words,
         sources,
-        heads,
+        heads: definitions.heads,
         outs,
     };
-    place_model(&model, names, image)
+    place_model(&model, definitions.names, image)
 }
 
 // Undefined outputs, then undefined sources, loops and 20.
-fn read_outputs(
-    words: &Words,
-    names: &Words,
-    heads: &[u16],
-    inputs: usize,
-    image: &mut [u8],
-) -> Result<u32, Refusal>
-    requires same_text { SameText names.now words.now }
-    requires named { LentNamed names.now words.now heads.now inputs }
-    ensures value { result ≡ answer (outputs_refusal (lines_in words.now 0) (length image.old))
-        (model_length (lines_in words.now 0)) }
+fn read_outputs(definitions: &Definitions, image: &mut [u8]) -> Result<u32, Refusal>
+    requires named { LentNamed definitions.now }
+    ensures value { result ≡ answer (outputs_refusal (lines_in definitions.now.words.now 0) (length image.old))
+        (model_length (lines_in definitions.now.words.now 0)) }
     ensures image_after { image.new ≡ unless_refused
-        (outputs_refusal (lines_in words.now 0) (length image.old))
-        (image_over (lines_in words.now 0) image.old) image.old }
+        (outputs_refusal (lines_in definitions.now.words.now 0) (length image.old))
+        (image_over (lines_in definitions.now.words.now 0) image.old) image.old }
 {
     let mut uses = [0u16; area::MOST_OUTPUTS];
     let mut places = [0u16; area::MOST_OUTPUTS];
-    let outputs = model::collect(words, Keyword::Outputs, &mut uses, &mut places, 0);
+    let outputs = model::collect(
+        definitions.words,
+        Keyword::Outputs,
+        &mut uses,
+        &mut places,
+        0,
+    );
     let used = Words {
-        text: words.text,
+        text: definitions.words.text,
         starts: &uses,
         lines: &places,
         count: outputs,
     };
     let mut outs = [0u16; area::MOST_OUTPUTS];
-    resolve::resolve(names, &used, 0, outputs, &mut outs, 0)?;
-    read_gates(words, names, heads, &outs[..outputs], inputs, image)
+    resolve::resolve(definitions.names, &used, 0, outputs, &mut outs, 0)?;
+    read_gates(definitions, &outs[..outputs], image)
 }
 
 // Names defined twice, then undefined names, loops and 20, of a text whose counts are right.
@@ -153,7 +159,13 @@ fn read_names(words: &Words, image: &mut [u8]) -> Result<u32, Refusal>
     let mut heads = [0u16; area::MOST_GATES];
     let gates = model::heads(words, &mut heads);
     resolve::judge_again(&names)?;
-    read_outputs(words, &names, &heads[..gates], inputs, image)
+    let definitions = Definitions {
+        words,
+        names: &names,
+        heads: &heads[..gates],
+        inputs,
+    };
+    read_outputs(&definitions, image)
 }
 
 // Of two refusals the one at the lower line.

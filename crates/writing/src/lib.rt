@@ -24,7 +24,7 @@ pub struct Model<'a> {
     pub outs: &'a [u16],
 }
 
-// Where gates stand in the image, one past it and 0 for none, and which gate stands at each place.
+// The place of each gate in the image, counted from 1, and the gate that stands at each place, from the first on.
 #[derive(Clone, Copy)]
 pub struct Placement<'a> {
     pub place: &'a [u16; area::MOST_GATES],

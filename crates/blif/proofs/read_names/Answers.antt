@@ -21,4 +21,4 @@ read_outputs-requires c =
     let at-collect2 = c.collect-many in
     let at-collect = c.collect-inputs in
     let h = at-heads2.ensures in
-    record { same_text = refl; named = named-cut c.requires.words c.requires.within.0 c.requires.within.1 at-collect.ensures at-collect2.ensures h.value h.heads (omega (arith, h.value, h.heads_len_unchanged, c.requires.within.0.few_gates)) }
+    record { named = (refl, named-cut c.requires.words c.requires.within.0 c.requires.within.1 at-collect.ensures at-collect2.ensures h.value h.heads (omega (arith, h.value, h.heads_len_unchanged, c.requires.within.0.few_gates))) }
