@@ -35,16 +35,16 @@ pub record Marked (n : ℕ) (ds old under : List ℕ) (start : ℕ) (new pile : 
 
 -- the same of a search
 abbrev pub HasRoom : Search → Type 0
-HasRoom s = Room s.marks s.pile s.top
+HasRoom s = Room s.marks.now s.pile.now s.top
 
 abbrev pub MarkedBy : ℕ → List ℕ → Search → Search → Type 0
-MarkedBy n ds s t = Marked n ds s.marks s.pile s.top t.marks t.pile t.top
+MarkedBy n ds s t = Marked n ds s.marks.now s.pile.now s.top t.marks.now t.pile.now t.top
 
 -- the gate on top of the pile is taken off, or none lies there
 abbrev pub Taken : Search → Option ℕ → Search → Type 0
 Taken s r t =
-    (t.marks ≡ s.marks) × (t.pile ≡ s.pile)
-    × MatchOption r (s.top ≡ 0) (λ (gate : ℕ). (0 < s.top) × (t.top ≡ s.top - 1) × (gate ≡ get_or s.pile (s.top - 1) 0))
+    (t.marks.now ≡ s.marks.now) × (t.pile.now ≡ s.pile.now)
+    × MatchOption r (s.top ≡ 0) (λ (gate : ℕ). (0 < s.top) × (t.top ≡ s.top - 1) × (gate ≡ get_or s.pile.now (s.top - 1) 0))
 
 -- gates that do not depend on themselves have entries
 abbrev pub Clear : (ℕ → List ℕ) → ℕ → List ℕ → Type 0

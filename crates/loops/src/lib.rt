@@ -14,15 +14,16 @@ use refusal::{Cause, Refusal};
 const PILE: usize = area::MOST_GATES + 1;
 
 // The gates that a search has seen, and on a pile those whose sources are still to be seen.
+// Both arrays are lent: with them in the struct, and so the top of the pile in memory, `read_blif` took 1.07 times as long on gates before a loop.
 // Marks are numbers and no bools: they begin as the places of gates, and specs/Marks.antt `Room`, `Marked`, `Clear` say them so.
 #[derive(Drop)]
-struct Search {
-    marks: [u16; area::MOST_GATES],
-    pile: [u16; PILE],
+struct Search<'a> {
+    marks: &'a mut [u16; area::MOST_GATES],
+    pile: &'a mut [u16; PILE],
     top: usize,
 }
 
-impl Search {
+impl Search<'_> {
     // Marks a source that is a gate not yet marked, and puts it on the pile.
     fn mark_source(&mut self, inputs: usize, source: usize)
         requires { HasRoom self.old × (inputs ≤ most_inputs) × (source < inputs + most_gates) }
@@ -74,12 +75,14 @@ fn on_itself(clear: &[u16; area::MOST_GATES], sources: Sources, gates: usize, ga
     if clear[gate] != 0 {
         return false;
     }
+    let mut marks = *clear;
+    let mut pile = [0; PILE];
+    pile[0] = gate as u16;
     let mut search = Search {
-        marks: *clear,
-        pile: [0; PILE],
+        marks: &mut marks,
+        pile: &mut pile,
         top: 1,
     };
-    search.pile[0] = gate as u16;
     while let Some(taken) = search.next() {
         search.mark_gate(sources, taken);
     }

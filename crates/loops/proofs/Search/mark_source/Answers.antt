@@ -5,9 +5,9 @@ use Rattle.loops.proofs.Search.mark_source.Goals as goal
 pub bounds-self-self : goal.bounds-self-self
 bounds-self-self c =
     let s = c.args.self.now in
-    roomy c.args.inputs c.args.source s.marks s.pile s.top c.requires.0 c.if-source-inputs.false c.requires.2 c.if-self-gate-eq0.true
+    roomy c.args.inputs c.args.source s.marks.now s.pile.now s.top c.requires.0 c.if-source-inputs.false c.requires.2 c.if-self-gate-eq0.true
 
 pub returns-then-self-gate-eq0 : goal.returns-then-self-gate-eq0
 returns-then-self-gate-eq0 c =
     let s = c.args.self.now in
-    marked-new c.args.inputs c.args.source s.marks s.pile s.top c.requires.0 c.if-source-inputs.false c.requires.2 c.if-self-gate-eq0.true
+    marked-new c.args.inputs c.args.source s.marks.now s.pile.now s.top c.requires.0 c.if-source-inputs.false c.requires.2 c.if-self-gate-eq0.true
