@@ -138,7 +138,8 @@ struct Walk<'a> {
     unseen: &'a [usize; area::MOST_SOURCES],
 }
 
-// The rows of all sources, and the number of the row of patterns that they have been worked out for.
+// The rows of all sources, and the number of the row of patterns that they have been worked out for. Of which area and plan they are is said in contracts:
+// those are lent by themselves, and a struct of both would have their arrays on the stack twice.
 #[derive(Drop)]
 pub struct HeldRows {
     pub rows: [u32; rows::ROW_WORDS],

@@ -179,7 +179,8 @@ fn earlier(first: Result<(), Refusal>, second: Result<(), Refusal>) -> Result<()
     }
 }
 
-// A model without an output is refused at its last line, `.end`.
+// A model without an output is refused at its last line, `.end`. That the words are held and some are there is asked here, of `judge_counts` and of
+// `read_model`: a type for three calls would be longer than these clauses.
 fn judge_some(words: &Words) -> Result<(), Refusal>
     requires { HeldWords words.now × (0 < words.now.count) }
     ensures { result ≡ some_fault (lines_in words.now 0) }

@@ -73,6 +73,7 @@ fn copy(from: &[u16], start: usize, many: usize, table: &mut [u16], count: usize
 }
 
 // A run of words, put into the tables of names after `count` others; how many there are then. Most lines of a long cover have none, and cost no call.
+// Two tables while they are filled, as `held` and `Collected` speak of two; lent as one `Words` afterwards.
 fn enter(
     words: &Words,
     start: usize,

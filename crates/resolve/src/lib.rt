@@ -16,7 +16,8 @@ ghost use Rattle.resolve.specs.Found.{found_in, Defined, Found, Sources, Headed,
 use names::Words;
 use refusal::{Cause, Refusal};
 
-// The number of the first of the names that word k is; their count if none is.
+// The number of the first of the names that word k is; their count if none is. That both are of one text is asked here and of the public functions below,
+// which take two plain `Words` and ask no more than one text did.
 fn find_word(names: &Words, words: &Words, k: usize) -> usize
     requires defined { Defined names.now words.now }
     requires k_in_bounds { HasWord words.now k }

@@ -66,7 +66,7 @@ fn pin(
     }
 }
 
-// The record of a gate of the text, at a place of the image.
+// The record of a gate of the text, at a place of the image. What is known of the words is asked here as of `write_image`, which takes a plain `Model`.
 fn write_gate(
     model: &Model,
     place: &[u16; area::MOST_GATES],
