@@ -35,7 +35,9 @@ loop-block-init c =
       [],
       rest,
       counted_start c.args.method (net_of c.args.area.now [] []) (start s)
-          (λ j less. first-zeros c.gates.result c.args.counts.now c.fill.new.self (few s) (zeros s) j (omega (arith, gate_count c.args.area.now [] [], c.gates.ensures))),
+          (λ j less.
+          first-zeros c.gates.result c.args.counts.now c.fill.new.self (few s) (zeros s) j
+          (omega (arith, gate_count c.args.area.now [] [], c.gates.ensures))),
     )
 
 pub count_block-requires : goal.count_block-requires
