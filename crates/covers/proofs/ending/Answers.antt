@@ -24,10 +24,15 @@ returns-then-from-words c =
     let a = c.args in
     let w = a.words.now in
     elim c.then-from-words.branch [
-      | then-from-words-via-then-from-words b ↦ sym (ap (λ (ls : List Line). ending_of (cover_of ls)) (lines_end w.text.now w.starts.now w.lines.now w.count a.from (omega (arith, b.if-from-words.true))))
+      | then-from-words-via-then-from-words b ↦
+          let over = lines_end w.text.now w.starts.now w.lines.now w.count a.from (omega (arith, b.if-from-words.true)) in
+          sym (ap (λ (ls : List Line). ending_of (cover_of ls)) over)
       | then-from-words-via-else-from-words+then-ne b ↦
           let low = below a.from w.count c.requires.1 b.if-from-words.false in
-          sym (ap ending_of (cover-over w.text.now w.starts.now w.lines.now w.count a.from (rest_at w.lines.now w.count a.from) low refl (λ e. keys-differ _ _ (sym b.ne.ensures ∙ b.if-ne.true) (b.key_at.ensures ∙ e))))
+          let rest = rest_at w.lines.now w.count a.from in
+          let over = cover-over w.text.now w.starts.now w.lines.now w.count a.from rest low refl
+          (λ e. keys-differ _ _ (sym b.ne.ensures ∙ b.if-ne.true) (b.key_at.ensures ∙ e)) in
+          sym (ap ending_of over)
     ]
 
 pub overflow_add-from : goal.overflow_add-from
