@@ -162,6 +162,7 @@ impl HeldRows {
         requires rows_kept { RowsFor area.now unseen.now self.old.rows self.old.number }
         ensures block { Block area.now self.new.rows (row_length * number) (layout.gates area.now) }
         ensures rows_kept_2 { RowsFor area.now unseen.now self.new.rows self.new.number }
+        ensures number_after { self.new.number ≡ number }
     {
         let inputs = area::inputs(area);
         let count = area::gates(area);
