@@ -24,6 +24,14 @@ module _ (t : List ℕ) (at : ℕ) (inside : at < length t) where
   pub next : get_or (drop (at + 1) t) 0 0 ≡ get_or t (at + 1) 0
   next = rw (get_or-drop, add-zero)
 
+  -- the word goes on
+  pub word_more : in_word (after (get_or t at 0) (get_or t (at + 1) 0)) ≡ true → word_of (drop at t) ≡ get_or t at 0 ∷ word_of (drop (at + 1) t)
+  word_more h = rw (here, next, h)
+
+  -- the word is over
+  pub word_over : in_word (after (get_or t at 0) (get_or t (at + 1) 0)) ≡ false → word_of (drop at t) ≡ []
+  word_over h = rw (here, next, h)
+
   -- a byte is read
   pub words_step : (st : State)
       → words_from st (drop at t)
@@ -32,6 +40,9 @@ module _ (t : List ℕ) (at : ℕ) (inside : at < length t) where
   words_step st = rw (here, next)
 
 module _ (t : List ℕ) (at : ℕ) (past : length t ≤ at) where
+  pub word_end : word_of (drop at t) ≡ []
+  word_end = rw drop_of_length-le
+
   pub words-end : (st : State) → words_from st (drop at t) ≡ []
   words-end st = rw drop_of_length-le
 
