@@ -1,8 +1,8 @@
 -- Laws of words at a place of a text. Assumes nothing.
 use Prim.Native.Nat.{ℕ, zero, suc, ◌+◌, ◌*◌, ◌<◌, ◌≤◌}
-use mathlib.Core.Path.{◌≡◌, refl, ap}
+use mathlib.Core.Path.{◌≡◌, refl, ap, sym}
 use mathlib.Core.Bool.{Bool, true, false, cond}
-use mathlib.Core.List.{List, [], ◌∷◌, ◌++◌}
+use mathlib.Core.List.{List, [], ◌∷◌, ◌++◌, append-nil}
 use borrow.Author.Count.{below_more}
 use native.Mathlib.Numerals.{add-one}
 use native.Mathlib.Nat.{add-zero, zero-add}
@@ -109,6 +109,10 @@ held_same t s l s' l' i (suc n) hs hl =
     rw (held_same t s l s' l' (suc i) n (λ k lt. hs k (omega arith)) (λ k lt. hl k (omega arith)), hs i (omega arith), hl i (omega arith))
 
 module _ (t s l : List ℕ) (tables : Tables s l) (n at line : ℕ) where
+  -- no word starts here
+  pub noted-none : Noted t s l n false at line s l n
+  noted-none = record { words = sym (append-nil (held t s l 0 n)); tables = tables; more = omega arith; inside = λ _ old. old }
+
   -- a word starts here
   pub noted : n < most_words → Noted t s l n true at line (set s n at) (set l n line) (n + 1)
   noted few =
