@@ -148,7 +148,9 @@ pub struct HeldRows {
 
 impl HeldRows {
     // The rows of all live gates for the row of patterns with this number, in order; no live gate or output reads a dead gate. A gate that does not
-    // tell the row held so far from this one keeps its own. It takes no `Walk`, as `live_words` takes none; as a part of its caller it was 1.05 times as slow.
+    // tell the row held so far from this one keeps its own. It takes no `Walk`, as `live_words` takes none. Not inlined: as a part of its caller, as in a
+    // program with one sink, it was 1.05 times as slow, and the words had a second place on the stack.
+    #[inline(never)]
     pub fn work(
         &mut self,
         area: &[u32],
