@@ -70,6 +70,12 @@ module _ (ws weights : List ℕ) where
       zero (row l) ∙ sym (zero (reliability_for ws (first + l))))) in
       omega (arith, same, sum-parts F first size)
 
+  -- two blocks after each other
+  pub both-add : (first a b x y : ℕ) → BlockAdds ws weights first a x → BlockAdds ws weights (first + a) b y → BlockAdds ws weights first (a + b) (x + y)
+  both-add first a b x y h g =
+      let whole : first + a + b ≡ first + (a + b) = omega arith in
+      omega (arith, h, g, ap (weighted_to ws weights) whole)
+
   -- a block whose weights are all zero; the last one may be shorter
   zero-weight : (first end size : ℕ) → first ≤ end → (end < length weights → end ≡ first + size)
       → all_zero (take (end - first) (drop first weights)) ≡ true → (q : ℕ) → first ≤ q → q < first + size → get_or weights q 0 ≡ 0

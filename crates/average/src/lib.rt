@@ -148,7 +148,9 @@ pub struct HeldRows {
 
 impl HeldRows {
     // The rows of all live gates for the row of patterns with this number, in order; no live gate or output reads a dead gate. A gate that does not
-    // tell the row held so far from this one keeps its own. It takes no `Walk`, as `live_words` takes none; as a part of its caller it was 1.05 times as slow.
+    // tell the row held so far from this one keeps its own. It takes no `Walk`, as `live_words` takes none. Not inlined: as a part of its caller, as in a
+    // program with one sink, it was 1.05 times as slow, and the words had a second place on the stack.
+    #[inline(never)]
     pub fn work(
         &mut self,
         area: &[u32],
@@ -162,6 +164,7 @@ impl HeldRows {
         requires rows_kept { RowsFor area.now unseen.now self.old.rows self.old.number }
         ensures block { Block area.now self.new.rows (row_length * number) (layout.gates area.now) }
         ensures rows_kept_2 { RowsFor area.now unseen.now self.new.rows self.new.number }
+        ensures number_after { self.new.number ≡ number }
     {
         let inputs = area::inputs(area);
         let count = area::gates(area);

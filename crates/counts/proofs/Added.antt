@@ -82,6 +82,10 @@ module _ (method : Method) (net : Netlist) (entry : List ℕ) where
     pub counted : (j : ℕ) → j < length net.gates → get_or counts j 0 ≡ seen_count method net patterns j
     pub past : (j : ℕ) → length net.gates ≤ j → get_or counts j 0 ≡ get_or entry j 0
 
+  -- before the first pattern
+  pub counted_start : ((j : ℕ) → j < length net.gates → get_or entry j 0 ≡ 0) → CountedOn [] entry
+  counted_start none = record { long = refl; counted = none; past = λ j l. refl }
+
   -- a list has at most as many that pass as it is long
   where-few : (t : ℕ → Bool) (xs : List ℕ) → count_where t xs ≤ length xs
   where-few t [] = omega arith

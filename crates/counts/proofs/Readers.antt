@@ -18,20 +18,24 @@ pub record Entering (ws : List ℕ) (k i : ℕ) (spans : List Span) : Type 0 whe
   pub own : (h : ℕ) → h < i → Within spans (pin ws k h) k
 
 -- before any gate
-pub reads_none : (ws : List ℕ) (first : ℕ) → Reads ws 0 (replicate most_sources (record { first = first; end = 0 }))
-reads_none ws first =
-    record {
-      long = length-replicate {A = Span} most_sources unread;
-      few =
-          λ s.
-          by_order s most_sources
-          (λ less. omega (arith, ap (λ (p : Span). p.end) (get_or-replicate most_sources s unread none less)))
-          (λ past. omega (arith, ap (λ (p : Span). p.end) (get_or-eq_default (replicate most_sources unread) none {n = s} (omega (arith, length-replicate {A = Span} most_sources unread)))));
-      within = λ m i less used. absurd (omega arith);
-    }
+pub reads_none : (ws : List ℕ) (spans : List Span) → length spans ≡ most_sources → ((s : ℕ) → (span_at spans s).end ≡ 0) → Reads ws 0 spans
+reads_none ws spans long none =
+    record { long = long; few = λ s. omega (arith, none s); within = λ m i less used. absurd (omega arith) }
+
+-- so it is where every source has the same span, which has no reader
+pub reads_unread : (ws : List ℕ) (first : ℕ) → Reads ws 0 (replicate most_sources (record { first = first; end = 0 }))
+reads_unread ws first =
+    reads_none ws (replicate most_sources unread) long
+    (λ s.
+    by_order s most_sources
+    (λ less. ap (λ (p : Span). p.end) (get_or-replicate most_sources s unread none less))
+    (λ past. ap (λ (p : Span). p.end) (get_or-eq_default (replicate most_sources unread) none {n = s} (omega (arith, long)))))
   where
     unread : Span
     unread = record { first = first; end = 0 }
 
     none : Span
     none = record { first = 0; end = 0 }
+
+    long : length (replicate most_sources unread) ≡ most_sources
+    long = length-replicate {A = Span} most_sources unread

@@ -47,16 +47,19 @@ fn line_rows(line: &[u8], width: usize) -> usize
 }
 
 // The rows that some line of the cover that begins at word `from` meets.
+// No `for` over the walk: that counts the words of a line before it gives the line, also of the one that ends the cover, which may be far longer.
 fn cover_rows(words: &Words, from: usize, width: usize) -> usize
     requires { LentFew words.now × (from ≤ words.now.count) × (width ≤ most_pins) }
     ensures { result ≡ table_of width (some_meets (cover_of (lines_in words.now from))) }
 {
     let mut rows = 0;
-    for line in statements::lines_from(words, from) {
-        if model::key_at(words, line.first) != Keyword::Other {
+    let mut at = from;
+    while at < words.count {
+        if model::key_at(words, at) != Keyword::Other {
             return rows;
         }
-        rows |= line_rows(words.word(line.first), width);
+        rows |= line_rows(words.word(at), width);
+        at += statements::line_rest(words, at) + 1;
     }
     rows
 }
@@ -66,10 +69,7 @@ fn ending(words: &Words, from: usize) -> Option<bool>
     requires { LentFew words.now × (from ≤ words.now.count) }
     ensures { result ≡ ending_of (cover_of (lines_in words.now from)) }
 {
-    if from == words.count {
-        return None;
-    }
-    if model::key_at(words, from) != Keyword::Other {
+    if from == words.count || model::key_at(words, from) != Keyword::Other {
         return None;
     }
     statements::value_at(words, from + statements::line_rest(words, from))

@@ -9,7 +9,7 @@ use native.Mathlib.Omega.{arith}
 use lib.ListN.{length, get_or, length-map}
 use Rattle.rounding.specs.Rounding.{units_in_one, blend}
 use Rattle.figure.specs.Figure.{answer, inverted, gate_step, gate_failure}
-use Rattle.netlist.specs.Seen.{alone, differ}
+use Rattle.netlist.specs.Seen.{alone, differ, sensitive}
 use Rattle.area.specs.Layout.{most_sources, most_pins, inputs, pin_count, table, pin, pins, flip, used_pins}
 use Rattle.area.proofs.Words.{used-count, used-pin, pin-below, few-sources}
 use Rattle.signals.specs.Signals.{lane, pin_lanes}
@@ -18,8 +18,8 @@ use Rattle.signals.proofs.Held.{pins-lanes}
 use Rattle.rows.specs.Rows.{row_length, row_at, EachEntry, RowFits}
 use Rattle.folds.specs.Gates.{RowsReady, value_in, RightHere, failure_from}
 use Rattle.rows.specs.Rows.{value_if}
-use Rattle.folds.specs.Failing.{fold_first, wrong_in, InvertedAt, InputsBelow, FailingEnd, RightFor, last_in}
-use Rattle.rows.proofs.Exact.{flip-alone}
+use Rattle.folds.specs.Failing.{fold_first, wrong_in, InvertedAt, InputsBelow, FailingEnd, RightFor, sensitive_failure, last_in}
+use Rattle.rows.proofs.Exact.{one-mean, flip-alone}
 use Rattle.folds.proofs.Fold.{drop-last, drop_all, drop-end, first-at-most, first-same, value-fits, fold-all}
 
 -- an entry of a mapped list
@@ -79,6 +79,34 @@ module _ (ws rows : List ℕ) (j : ℕ) (ready : RowsReady ws rows j) (right shi
   pub none-wrong : RightFor ws j right shift words → (l : ℕ) → l < row_length → lane l 0 ≡ wrong_in ws j right (shift + l) (values l words)
   none-wrong here l less =
       lane-zero l ∙ sym (ap (differ (answer (table ws j) (values l words))) (here l less) ∙ differ_same (answer (table ws j) (values l words)))
+
+  -- ---- one pin alone may fail
+
+  module _ (here : RightFor ws j right shift words) (k : ℕ) (l : ℕ) (less : l < row_length) where
+    alone-wrong : wrong_in ws j right (shift + l) (inverted (values l words) (alone k)) ≡ sensitive (table ws j) (values l words) k
+    unfolding sensitive
+    alone-wrong = ap (differ (answer (table ws j) (inverted (values l words) (alone k)))) (here l less)
+
+    -- its start values are 0 and, where the gate is sensitive to it, U
+    pub single-made : (used : k < pin_count ws j) (wrong : List ℕ) → InvertedAt k words wrong → (n f : ℕ)
+        → lane l n ≡ wrong_in ws j right (shift + l) (values l wrong) → f ≡ row_at rows (pin ws j k) l
+        → blend units_in_one (value_if (lane l 0)) (value_if (lane l n)) f ≡ sensitive_failure ws rows j shift words k l
+    single-made used wrong turned n f g e =
+        ap₂ (λ (x y : Bool). blend units_in_one (value_if x) (value_if y) f) (lane-zero l)
+        (g ∙ ap (wrong_in ws j right (shift + l)) (other k used wrong turned l less) ∙ alone-wrong)
+        ∙ ap (blend units_in_one 0 (value_if (sensitive (table ws j) (values l words) k))) e
+        ∙ one-mean (row_at rows (pin ws j k) l) (ready.fits k used l less) (sensitive (table ws j) (values l words) k)
+
+    -- and that is the last value, if the pins below cannot fail
+    pub single-last : k < pin_count ws j → InputsBelow ws j k → sensitive_failure ws rows j shift words k l ≡ last_in ws rows j right shift words (suc k) l
+    single-last used below =
+        let none : (i : ℕ) → i < k → failing l i ≡ 0 = λ i small. ready.sure (pin ws j i) l (below i small) less in
+        sym (one-mean (row_at rows (pin ws j k) l) (ready.fits k used l less) (sensitive (table ws j) (values l words) k))
+        ∙ ap₂ (λ (x y : Bool). blend units_in_one (value_if x) (value_if y) (failing l k)) (sym (lane-zero l) ∙ none-wrong here l less) (sym alone-wrong)
+        ∙ sym
+        (ap₂ (λ (x y : ℕ). blend units_in_one x y (failing l k))
+        (drop_all (start l) (failing l) k (values l words) none)
+        (drop_all (start l) (failing l) k (inverted (values l words) (alone k)) none))
 
 -- ---- one pin more, from the rows over the pins before it
 

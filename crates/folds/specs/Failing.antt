@@ -1,9 +1,9 @@
 -- The fold told by the values on the pins: folding a pin takes the mean of what comes where it is right and of what comes where it is inverted. A pin whose
 -- source cannot fail then drops out, and the first fold of a pin that may is exact.
-use Rattle.std.specs.Prelude.{ℕ, zero, suc, ◌+◌, ◌-◌, ◌≤◌, ◌<◌, Bool, List, ◌≡◌}
+use Rattle.std.specs.Prelude.{ℕ, zero, suc, ◌+◌, ◌-◌, ◌≤◌, ◌<◌, Bool, cond, List, ◌≡◌}
 use Rattle.rounding.specs.Rounding.{units_in_one, blend}
 use Rattle.figure.specs.Figure.{answer, inverted}
-use Rattle.netlist.specs.Seen.{alone, differ}
+use Rattle.netlist.specs.Seen.{alone, differ, sensitive}
 use Rattle.area.specs.Layout.{inputs, pin_count, table, pin}
 use Rattle.signals.specs.Signals.{lane_count, lane, pin_lanes}
 use Rattle.rows.specs.Rows.{row_length, row_at, value_if}
@@ -35,6 +35,11 @@ pub record FailingEnd (ws : List ℕ) (j end : ℕ) : Type 0 where
 abbrev pub last_in : List ℕ → List ℕ → ℕ → ℕ → ℕ → List ℕ → ℕ → ℕ → ℕ
 last_in ws rows j right shift pins k l =
     fold_first (λ vs. value_if (wrong_in ws j right (shift + l) vs)) (λ i. row_at rows (pin ws j i) l) k (pin_lanes (shift + l) (pin_count ws j) pins)
+
+-- one pin's failure where gate j is sensitive to it, else 0
+abbrev pub sensitive_failure : List ℕ → List ℕ → ℕ → ℕ → List ℕ → ℕ → ℕ → ℕ
+sensitive_failure ws rows j shift pins number l =
+    cond (sensitive (table ws j) (pin_lanes (shift + l) (pin_count ws j) pins) number) (row_at rows (pin ws j number) l) 0
 
 -- the words of gate j's pins lead to what `right` has
 abbrev pub RightFor : List ℕ → ℕ → ℕ → ℕ → List ℕ → Type 0

@@ -64,12 +64,15 @@ pub fn judge_count(words: &Words, wanted: Keyword, most: usize) -> Result<(), Re
     Ok(())
 }
 
-// The `many` entries from `start` on, put into a table after `count` others.
+// The `many` entries from `start` on, put into a table after `count` others. Entry by entry: with `copy_from_slice` the library for C would need `memmove`
+// from outside, which it needs for nothing else.
 fn copy(from: &[u16], start: usize, many: usize, table: &mut [u16], count: usize)
     requires { (start + many ≤ length from.now) × (count + many ≤ length table.old) }
     ensures { table.new ≡ sets table.old count (take many (drop start from.now)) }
 {
-    table[count..count + many].copy_from_slice(&from[start..start + many]);
+    for i in 0..many {
+        table[count + i] = from[start + i];
+    }
 }
 
 // A run of words, put into the tables of names after `count` others; how many there are then. Most lines of a long cover have none, and cost no call.

@@ -131,8 +131,20 @@ text-short s w h = not_same (word_of s) w (λ e. omega (arith, word-short s))
 
 -- looking a name up
 module _ (text starts w : List ℕ) (many i : ℕ) (here : i < many) where
+  pub find-here : same (name_at text starts i) w ≡ true → before text starts w i (many - i) ≡ 0
+  find-here e = rw (one, e)
+    where
+      one : many - i ≡ suc (many - (i + 1))
+      one = omega arith
+
   pub find-later : same (name_at text starts i) w ≡ false → before text starts w i (many - i) ≡ suc (before text starts w (i + 1) (many - (i + 1)))
   find-later e = rw (one, e, add-one)
     where
       one : many - i ≡ suc (many - (i + 1))
       one = omega arith
+
+pub find_none : (text starts w : List ℕ) (many i : ℕ) → many ≤ i → before text starts w i (many - i) ≡ 0
+find_none text starts w many i past = rw none
+  where
+    none : many - i ≡ 0
+    none = omega arith

@@ -96,7 +96,7 @@ fn may_be(text: &[u8], start: usize, w: &[u8]) -> bool
 }
 
 // Name k is w.
-fn is_at(names: &Words, k: usize, w: &[u8]) -> bool
+pub fn is_at(names: &Words, k: usize, w: &[u8]) -> bool
     requires { HasWord names.now k }
     ensures { result ≡ same (name_of names.now k) w.now }
 {

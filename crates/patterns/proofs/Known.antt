@@ -1,5 +1,5 @@
 -- What is known of the figures after a further row. Assumes nothing.
-use Prim.Native.Nat.{ℕ, ◌+◌, ◌-◌, ◌≤◌, ◌<◌}
+use Prim.Native.Nat.{ℕ, ◌+◌, ◌-◌, ◌^◌, ◌≤◌, ◌<◌}
 use mathlib.Core.List.{List}
 use mathlib.Core.Logic.{by_cases}
 use mathlib.Core.Path.{◌≡◌, subst, ◌∙◌}
@@ -9,10 +9,15 @@ use borrow.Rule.Slice.PartMut.{put_mid}
 use lib.ListN.{length, get_or}
 use Rattle.std.proofs.Common.{rules}
 use Rattle.std.proofs.lemmas.List.{places}
+use Rattle.area.specs.Layout.{inputs}
 use Rattle.rows.specs.Rows.{row_length}
 use Rattle.average.specs.Walked.{RowRight}
 use Rattle.calls.specs.Calls.{reliability_for}
 use Rattle.patterns.specs.Known.{Known}
+
+-- once all patterns are passed, more are known than there are
+pub past-known : (ws figures : List ℕ) (k m : ℕ) → 2 ^ inputs ws ≤ k → Known ws figures k → Known ws figures m
+past-known ws figures k m past known = record { long = known.long; each = λ q less inside. known.each q (omega arith) inside }
 
 module _ (a k : ℕ) (xs ys : List ℕ) (few : a + k ≤ length xs) (whole : length ys ≡ k) where
   put-before : (q : ℕ) → q < a → get_or (put_mid a k xs ys) q 0 ≡ get_or xs q 0

@@ -14,6 +14,9 @@ use Rattle.placing.specs.Placing.{placed_source, all_placed, ready, passed, plac
 one_less : (n i : ℕ) → i < n → n - i ≡ suc (n - (i + 1))
 one_less n i h = omega arith
 
+none_left : (n i : ℕ) → n ≤ i → n - i ≡ 0
+none_left n i h = omega arith
+
 module _ (n : ℕ) (place pins : List ℕ) (end i : ℕ) (here : i < end) where
   pub placed-more : placed_source n place (get_or pins i 0) ≡ true
       → all_placed n place (entries pins i (end - i)) ≡ all_placed n place (entries pins (i + 1) (end - (i + 1)))
@@ -21,6 +24,10 @@ module _ (n : ℕ) (place pins : List ℕ) (end i : ℕ) (here : i < end) where
 
   pub placed-stop : placed_source n place (get_or pins i 0) ≡ false → all_placed n place (entries pins i (end - i)) ≡ false
   placed-stop e = rw (one_less end i here, e)
+
+module _ (n : ℕ) (place pins : List ℕ) (start many i : ℕ) where
+  pub placed_end : many ≤ i → all_placed n place (entries pins (start + i) (many - i)) ≡ true
+  placed_end h = rw (none_left many i h)
 
 module _ (S : ℕ → List ℕ) (n : ℕ) (place : List ℕ) (g j : ℕ) where
   pub next-later : j < g → ready S n place j ≡ false → passed S n place j (g - j) ≡ suc (passed S n place (j + 1) (g - (j + 1)))

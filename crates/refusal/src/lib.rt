@@ -1,7 +1,7 @@
 // Refusals: what is judged of an image, an area, a text or a call's arguments, and why it is refused.
 #![tactic(auto)]
 
-ghost use Rattle.std.specs.Prelude.{◌≡◌, ◌<◌, length};
+ghost use Rattle.std.specs.Prelude.{◌≡◌, ◌<◌, ◌++◌, length, Some, codes, decimal};
 ghost use Rattle.refusal.specs.Judgement.{number_of, lowest, word_judgement};
 
 use std::fmt;
@@ -57,8 +57,10 @@ pub struct Refusal {
     pub place: u32,
 }
 
-// As it is printed: the number of the cause, and the place.
+// As it is printed: the number of the cause, a blank, and the place, both in decimals.
 impl fmt::Display for Refusal {
+    ghost output = { λ why. Some (decimal (number_of why.cause) ++ (codes " " ++ decimal why.place)) };
+
     fn fmt<W: fmt::Write>(&self, f: &mut fmt::Formatter<W>) -> fmt::Result {
         write!(f, "{} {}", self.cause.number(), self.place)
     }

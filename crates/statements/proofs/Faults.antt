@@ -1,5 +1,5 @@
 -- The first fault, line by line. Assumes nothing.
-use Prim.Native.Nat.{ℕ, suc, ◌+◌, ◌-◌, ◌<◌}
+use Prim.Native.Nat.{ℕ, suc, ◌+◌, ◌-◌, ◌<◌, ◌≤◌}
 use mathlib.Core.Path.{◌≡◌, sym, subst}
 use Rattle.std.specs.Prelude.{Some, None}
 use mathlib.Core.List.{List, ◌∷◌}
@@ -7,10 +7,10 @@ use native.Mathlib.Numerals.{add-one}
 use native.Mathlib.Omega.{arith}
 use lib.ListN.{get_or, drop}
 use Rattle.refusal.specs.Judgement.{Judgement}
-use Rattle.refusal.specs.Judgement.{refused}
+use Rattle.refusal.specs.Judgement.{refused, refuse_unless}
 use Rattle.texts.specs.Words.{word_of, held}
 use Rattle.statements.specs.Lines.{line_of, lines_of, bytes_from, alike}
-use Rattle.statements.specs.Fit.{fit, fault}
+use Rattle.statements.specs.Fit.{fit, is_ended, fault}
 use Rattle.statements.specs.declared.Phase.{Phase}
 use Rattle.statements.proofs.Lines.{one_less, lines_split}
 use Rattle.refusal.specs.declared.Cause.TheVariants.{TextLine}
@@ -40,3 +40,9 @@ module _ (t s l : List ℕ) (n last : ℕ) (p : Phase) (k r : ℕ) (inside : k <
 
     pub fault-later : (q : Phase) → Some q ≡ fit p (x ∷ bytes_from t s (k + 1) r) → fault_from t s l n last p k ≡ fault_from t s l n last q (k + (r + 1))
     fault-later q e = rw (split, ← line_words, ← e)
+
+pub fault-end : (t s l : List ℕ) (n last : ℕ) (p : Phase) (k : ℕ) → n ≤ k → fault_from t s l n last p k ≡ refuse_unless (is_ended p) TextLine last
+fault-end t s l n last p k past = rw none
+  where
+    none : n - k ≡ 0
+    none = omega arith

@@ -10,7 +10,9 @@ use lib.ListN.{length, get_or, drop}
 use lib.Dec.{eqb}
 use borrow.Author.Tests.{eq-eqb, ne_eqb, eqb-true, eqb-false}
 use Rattle.texts.specs.Words.{word_of, word_at, held}
+use Rattle.names.specs.Names.{is_name}
 use Rattle.statements.specs.Lines.{Line, line_of, joined, lines_of, bytes_from, alike, Places}
+use Rattle.statements.specs.Fit.{all_names}
 use Rattle.statements.specs.declared.Part.TheInside.{Inside}
 use Rattle.statements.specs.Part.{bytes_in}
 
@@ -37,10 +39,25 @@ length-part p = length-bytes p.words.now.text.now p.words.now.starts.now p.from 
 pub places-less : {t s : List ℕ} {n m : ℕ} → Places t s n → m ≤ n → Places t s m
 places-less p h = record { within = omega (arith, p.within); inside = λ k lt. p.inside k (omega arith) }
 
+-- names among the words of a table
+module _ (t s : List ℕ) (start many i : ℕ) where
+  pub names_more : i < many → is_name (word_of (drop (get_or s (start + i) 0) t)) ≡ true
+      → all_names (bytes_from t s (start + i) (many - i)) ≡ all_names (bytes_from t s (start + (i + 1)) (many - (i + 1)))
+  names_more h e = rw (one_less many i h, e, shift)
+    where
+      shift : suc (start + i) ≡ start + (i + 1)
+      shift = omega arith
+
 -- words of one line
 module _ (l : List ℕ) (x n i : ℕ) where
   pub alike-more : i < n → get_or l i 0 ≡ x → alike l x i (n - i) ≡ suc (alike l x (i + 1) (n - (i + 1)))
   alike-more h e = rw (one_less n i h, eq-eqb _ _ e, add-one)
+
+  pub alike_end : n ≤ i → alike l x i (n - i) ≡ 0
+  alike_end h = rw none
+    where
+      none : n - i ≡ 0
+      none = omega arith
 
 pub alike-short : (l : List ℕ) (x i k : ℕ) → alike l x i k ≤ k
 alike-short l x i zero = omega arith

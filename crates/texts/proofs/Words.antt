@@ -1,8 +1,8 @@
 -- Laws of words at a place of a text. Assumes nothing.
 use Prim.Native.Nat.{ℕ, zero, suc, ◌+◌, ◌*◌, ◌<◌, ◌≤◌}
-use mathlib.Core.Path.{◌≡◌, refl, ap}
+use mathlib.Core.Path.{◌≡◌, refl, ap, sym}
 use mathlib.Core.Bool.{Bool, true, false, cond}
-use mathlib.Core.List.{List, [], ◌∷◌, ◌++◌}
+use mathlib.Core.List.{List, [], ◌∷◌, ◌++◌, append-nil}
 use borrow.Author.Count.{below_more}
 use native.Mathlib.Numerals.{add-one}
 use native.Mathlib.Nat.{add-zero, zero-add}
@@ -24,6 +24,14 @@ module _ (t : List ℕ) (at : ℕ) (inside : at < length t) where
   pub next : get_or (drop (at + 1) t) 0 0 ≡ get_or t (at + 1) 0
   next = rw (get_or-drop, add-zero)
 
+  -- the word goes on
+  pub word_more : in_word (after (get_or t at 0) (get_or t (at + 1) 0)) ≡ true → word_of (drop at t) ≡ get_or t at 0 ∷ word_of (drop (at + 1) t)
+  word_more h = rw (here, next, h)
+
+  -- the word is over
+  pub word_over : in_word (after (get_or t at 0) (get_or t (at + 1) 0)) ≡ false → word_of (drop at t) ≡ []
+  word_over h = rw (here, next, h)
+
   -- a byte is read
   pub words_step : (st : State)
       → words_from st (drop at t)
@@ -32,6 +40,9 @@ module _ (t : List ℕ) (at : ℕ) (inside : at < length t) where
   words_step st = rw (here, next)
 
 module _ (t : List ℕ) (at : ℕ) (past : length t ≤ at) where
+  pub word_end : word_of (drop at t) ≡ []
+  word_end = rw drop_of_length-le
+
   pub words-end : (st : State) → words_from st (drop at t) ≡ []
   words-end st = rw drop_of_length-le
 
@@ -98,6 +109,10 @@ held_same t s l s' l' i (suc n) hs hl =
     rw (held_same t s l s' l' (suc i) n (λ k lt. hs k (omega arith)) (λ k lt. hl k (omega arith)), hs i (omega arith), hl i (omega arith))
 
 module _ (t s l : List ℕ) (tables : Tables s l) (n at line : ℕ) where
+  -- no word starts here
+  pub noted-none : Noted t s l n false at line s l n
+  noted-none = record { words = sym (append-nil (held t s l 0 n)); tables = tables; more = omega arith; inside = λ _ old. old }
+
   -- a word starts here
   pub noted : n < most_words → Noted t s l n true at line (set s n at) (set l n line) (n + 1)
   noted few =

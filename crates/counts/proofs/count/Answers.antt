@@ -7,7 +7,7 @@ use Rattle.netlist.specs.Seen.{seen_counts}
 use Rattle.area.specs.Layout as layout
 use Rattle.area.specs.Net.{net_of}
 use Rattle.area.proofs.Net.{gate_count}
-use Rattle.counts.proofs.Added.{counted_ready, counted-block, counted-whole}
+use Rattle.counts.proofs.Added.{counted_start, counted_ready, counted-block, counted-whole}
 use Rattle.counts.proofs.Cleared.{first-zeros, rest_same, as_long}
 use Rattle.counts.proofs.count.Goals.{After-fill}
 use Rattle.counts.proofs.count.Goals as goal
@@ -34,11 +34,10 @@ loop-block-init c =
       size,
       [],
       rest,
-      record {
-        long = refl;
-        counted = λ j less. first-zeros c.gates.result c.args.counts.now c.fill.new.self (few s) (zeros s) j (omega (arith, gate_count c.args.area.now [] [], c.gates.ensures));
-        past = λ j l. refl;
-      },
+      counted_start c.args.method (net_of c.args.area.now [] []) (start s)
+          (λ j less.
+          first-zeros c.gates.result c.args.counts.now c.fill.new.self (few s) (zeros s) j
+          (omega (arith, gate_count c.args.area.now [] [], c.gates.ensures))),
     )
 
 pub count_block-requires : goal.count_block-requires

@@ -13,13 +13,13 @@ use Rattle.netlist.specs.Seen.{flip_seen}
 use Rattle.signals.specs.Signals.{InEachLane}
 use Rattle.counts.specs.Counts.{in_list}
 use Rattle.counts.proofs.Right.{words-worked}
-use Rattle.counts.proofs.Readers.{reads_none}
+use Rattle.counts.proofs.Readers.{reads_unread}
 use Rattle.counts.proofs.Flips.{flip-seen}
 use Rattle.counts.proofs.Added.{counted_none, counted-up, counted-all}
 use Rattle.counts.proofs.flip_gates.Goals as goal
 
 pub enter_gates-requires : goal.enter_gates-requires
-enter_gates-requires c = record { net_sound = c.requires.net_sound.0; reads = reads_none c.args.area.now 1_024 }
+enter_gates-requires c = record { net_sound = c.requires.net_sound.0; reads = reads_unread c.args.area.now 1_024 }
 
 pub listed_lanes-by-requires : goal.listed_lanes-by-requires
 listed_lanes-by-requires c =

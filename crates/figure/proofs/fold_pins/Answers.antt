@@ -3,6 +3,7 @@ use Prim.Native.Nat.{ℕ, ◌+◌, ◌-◌, ◌*◌, ◌^◌}
 use mathlib.Core.Path.{◌≡◌, sym, ap, ◌∙◌}
 use native.Mathlib.Omega.{arith}
 use Rattle.rounding.specs.Rounding.{units_in_one}
+use mathlib.Core.List.{List}
 use lib.ListN.{get_or, take}
 use Rattle.figure.specs.Figure.{failure_of, fold_step}
 use Rattle.figure.proofs.Pins.{at-most-eight, two-more, fold-next, fold-end}
@@ -14,9 +15,14 @@ fold_first-values-requires g c =
     let more : g.row.COUNT ≡ (g.row.COUNT - 1) + 1 = omega arith in
     let twice : 2 ^ g.row.COUNT ≡ 2 * 2 ^ (g.row.COUNT - 1) = ap (λ (n : ℕ). 2 ^ n) more ∙ two-more (g.row.COUNT - 1) in
     rw c.patterns.ensures (record {
-      half_bound = (few.1, omega arith, c.requires.by_index 0 (omega arith));
+      half_bound = (few.1, omega arith, c.requires.by_index _ (omega arith));
       by_index = rw twice at c.requires.by_index_2;
     })
+
+-- the pin that was folded first, however the code names it, is pin 0
+first-pin : (u half pin : ℕ) (words values next : List ℕ) → take half next ≡ fold_step u (failure_of (get_or words pin 0)) (take (2 * half) values)
+    → pin ≡ 0 → take half next ≡ fold_step u (failure_of (get_or words 0 0)) (take (2 * half) values)
+first-pin u half pin words values next step e = rw e at step
 
 pub loop-pin-init : goal.loop-pin-init
 loop-pin-init g c =
@@ -24,7 +30,7 @@ loop-pin-init g c =
     let same : g.row.COUNT - 1 - 0 ≡ g.row.COUNT - 1 = omega arith in
     let folded : take (2 ^ (g.row.COUNT - 1 - 0)) c.fold_first-values.result
     ≡ fold_step units_in_one (failure_of (get_or c.args.words.now 0 0)) (take (2 * 2 ^ (g.row.COUNT - 1 - 0)) c.args.values)
-    = rw same made.result_value in
+    = rw same (first-pin units_in_one (2 ^ (g.row.COUNT - 1)) _ c.args.words.now c.args.values c.fold_first-values.result made.result_value (omega arith)) in
     let none : g.row.COUNT - 0 ≡ g.row.COUNT = omega arith in
     record {
       value = rw none at (fold-next units_in_one g.row.COUNT 0 c.args.words.now c.args.values c.fold_first-values.result (omega arith) (omega arith) folded);

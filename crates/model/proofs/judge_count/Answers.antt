@@ -4,10 +4,8 @@ use mathlib.Core.Path.{◌≡◌, ap, sym, ◌∙◌}
 use native.Mathlib.Omega.{arith}
 use Rattle.refusal.specs.Judgement.{refused}
 use Rattle.statements.proofs.Walking.{stepped}
-use Rattle.model.specs.Model.{listed}
-use Rattle.model.specs.Counts.{over_fault}
 use Rattle.model.specs.Tables.{run_many, key_in}
-use Rattle.model.proofs.Runs.{refuse-here, refuse-later, over_none, lines_end}
+use Rattle.model.proofs.Runs.{refuse-here, refuse-later}
 use Rattle.model.proofs.judge_count.Goals as goal
 use Rattle.refusal.specs.declared.Cause.TheVariants.{TextModel}
 

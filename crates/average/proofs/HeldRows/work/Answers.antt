@@ -146,4 +146,5 @@ returns c =
         l.invariant.kept,
         held-block a.area.now a.unseen.now l.self.rows p.0.net p.2 c.args.number (rw end at l.invariant.block),
       );
+      number_after = refl;
     }
