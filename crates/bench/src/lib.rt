@@ -75,9 +75,7 @@ fn open_loaded(area: &mut [u32], words: &[u32]) -> Result<u32, Refusal>
     open_fitting(area, words, live, counted.sum)
 }
 
-// Opens an image in the area: pattern 0. It answers the number of live gates. Not inlined: its words, 33 KB, would else stand on the stack of a caller that
-// goes on with the area, as the programs do, while the patterns are walked.
-#[inline(never)]
+// Opens an image in the area: pattern 0. It answers the number of live gates.
 pub fn open(area: &mut [u32], image: &[u8]) -> Result<u32, Refusal>
     ensures value { result ≡ opened (judgement area.old (open_image image.now)) (open_live image.now) }
     ensures area_after { area.new ≡ left area.old (open_image image.now) }

@@ -10,8 +10,9 @@ ghost use Rattle.bound.specs.Sharp.{error_halves};
 ghost use Rattle.area.specs.Layout as layout;
 ghost use Rattle.image.specs.Image.{image_inputs};
 ghost use Rattle.image.specs.Netlist.{image_net};
-ghost use Rattle.calls.specs.Judgements.{image_judgement};
-ghost use Rattle.calls.specs.Calls.{open_live};
+ghost use Rattle.calls.specs.Judgements.{open_image, judgement, image_judgement};
+ghost use Rattle.calls.specs.Calls.{open_live, left};
+ghost use Rattle.bench.specs.Answers.{opened};
 ghost use Rattle.comparison.specs.Standing as standing;
 ghost use Rattle.comparison.specs.Standing.{slack_limit, beyond, same_verdict, counts_by, averages_verdict, patterns_between, answered};
 ghost use Rattle.comparison.specs.Images.{opened_words, figures_of, module_of, error_read, module_read, with_image, compared};
@@ -179,6 +180,15 @@ fn opened_module(figures: &mut [u32], area: &[u32], image: &[u8], live: u32) -> 
     }
 }
 
+// Opening, for a module. Not inlined: its words, 33 KB, would else stand on the stack while the patterns are walked.
+#[inline(never)]
+fn open(area: &mut [u32], image: &[u8]) -> Result<u32, Refusal>
+    ensures value { result ≡ opened (judgement area.old (open_image image.now)) (open_live image.now) }
+    ensures area_after { area.new ≡ left area.old (open_image image.now) }
+{
+    bench::open(area, image)
+}
+
 // A module, and its reliability under every pattern.
 fn read_module(figures: &mut [u32], image: &[u8]) -> Result<Module, Refusal>
     requires { layout.most_patterns ≤ length figures.old }
@@ -187,7 +197,7 @@ fn read_module(figures: &mut [u32], image: &[u8]) -> Result<Module, Refusal>
         → (q : ℕ) → q < 2 ^ image_inputs image.now → get_or figures.new q 0 ≡ figures_of image.now q }
 {
     let mut area = [0u32; area::MOST_WORDS];
-    let live = bench::open(&mut area, image)?;
+    let live = open(&mut area, image)?;
     Ok(opened_module(figures, &area, image, live))
 }
 

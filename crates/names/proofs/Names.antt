@@ -8,8 +8,8 @@ use Rattle.std.specs.Cmp.Lexicographic.{same_text}
 use mathlib.Core.List.{List, [], ◌∷◌}
 use native.Mathlib.Numerals.{add-one}
 use native.Mathlib.Omega.{arith}
-use lib.ListN.{length, get_or, take, drop, length-drop}
-use lib.Seq.{get_or-take, get_or-drop}
+use lib.ListN.{length, get_or, take, drop, drop_of_length-le, length-drop}
+use lib.Seq.{drop-cons, get_or-take, get_or-drop}
 use lib.Dec.{eqb, leb}
 use borrow.Author.Tests.{eq-eqb, ne_eqb, leb-true}
 use Rattle.texts.specs.Words.{word_of, after, in_word, joins, blank}
@@ -31,6 +31,17 @@ word-short (b ∷ s) = go (in_word (after b (get_or s 0 0))) refl (word-short s)
     go : (q : Bool) → in_word (after b (get_or s 0 0)) ≡ q → length (word_of s) ≤ length s → length (word_of (b ∷ s)) ≤ length (b ∷ s)
     go true e ih = rw e (omega arith)
     go false e ih = rw e (omega arith)
+
+-- two strings are compared byte by byte
+module _ (s t : List ℕ) (i : ℕ) where
+  pub same_more : i < length s → i < length t → get_or s i 0 ≡ get_or t i 0 → same (drop i s) (drop i t) ≡ same (drop (i + 1) s) (drop (i + 1) t)
+  same_more hs ht e = rw (drop-cons s i 0, drop-cons t i 0, eq-eqb _ _ e, add-one)
+
+  pub same_stop : i < length s → i < length t → (get_or s i 0 ≡ get_or t i 0 → ⊥) → same (drop i s) (drop i t) ≡ false
+  same_stop hs ht n = rw (drop-cons s i 0, drop-cons t i 0, ne_eqb _ _ n)
+
+  pub same_end : length s ≤ i → length t ≤ i → same (drop i s) (drop i t) ≡ true
+  same_end hs ht = rw (drop_of_length-le s hs, drop_of_length-le t ht)
 
 -- both tests as the library says them
 pub and-is : (q x y : Bool) → x ≡ y → cond q x false ≡ (q && y)

@@ -30,6 +30,9 @@ module _ (n : ℕ) (place pins : List ℕ) (start many i : ℕ) where
   placed_end h = rw (none_left many i h)
 
 module _ (S : ℕ → List ℕ) (n : ℕ) (place : List ℕ) (g j : ℕ) where
+  pub next_here : j < g → ready S n place j ≡ true → passed S n place j (g - j) ≡ 0
+  next_here h e = rw (one_less g j h, e)
+
   pub next-later : j < g → ready S n place j ≡ false → passed S n place j (g - j) ≡ suc (passed S n place (j + 1) (g - (j + 1)))
   next-later h e = rw (one_less g j h, e, add-one)
 

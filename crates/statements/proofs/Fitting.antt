@@ -1,18 +1,25 @@
 -- Laws of fitting lines. Assumes nothing.
-use Prim.Native.Nat.{ℕ}
+use Prim.Native.Nat.{ℕ, ◌+◌, ◌<◌}
 use mathlib.Core.Path.{◌≡◌, refl}
 use Rattle.std.specs.List.{list_all}
 use Rattle.names.proofs.Names.{and-is}
 use mathlib.Core.Bool.{Bool, true, false, cond}
 use lib.Dec.{eqb}
 use mathlib.Core.List.{List, [], ◌∷◌}
-use lib.ListN.{length, get_or}
+use native.Mathlib.Numerals.{add-one}
+use lib.ListN.{length, get_or, drop}
+use lib.Seq.{drop-cons}
 use borrow.Author.Tests.{eq-eqb, ne_eqb}
 use Rattle.std.specs.Prelude.{Option, Some, None}
 use Rattle.names.specs.Names.{same}
 use Rattle.statements.specs.declared.Phase.{Phase}
 use Rattle.statements.specs.declared.Keyword.TheVariants.{Model, Inputs, Outputs, Names, End, Other}
 use Rattle.statements.specs.Fit.{key_model, key_inputs, key_outputs, key_names, key_end, keyword_of, value_of, row_byte, row_bytes, is_row, after_value, after_line}
+
+-- a row is read byte by byte
+module _ (s : List ℕ) (i : ℕ) where
+  pub row_more : i < length s → row_byte (get_or s i 0) ≡ true → row_bytes (drop i s) ≡ row_bytes (drop (i + 1) s)
+  row_more h e = rw (drop-cons s i 0, e, add-one)
 
 -- which keyword a word is
 module _ (w : List ℕ) where
